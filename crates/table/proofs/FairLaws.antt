@@ -1,0 +1,165 @@
+-- What holds of every table that is accepted: the limits of its steps and edges, where its names stand, and its length.
+use mathlib.Core.Path.{_≡_, refl, sym, ap, subst, _∙_}
+use mathlib.Core.Bool.{Bool, true, false, not, _&&_, cond}
+use mathlib.Core.List.{List}
+use Prim.Native.Nat.{ℕ, zero, suc, _+_, _-_, _≤_, _<_}
+use native.Mathlib.Omega.{arith}
+use borrow.Author.Tests.{ltb-true, eqb-true, eqb-false}
+use lib.Dec.{leb, ltb, eqb}
+use lib.ListN.{length}
+use Rattle.graph.specs.declared.Edge.{Edge}
+use Rattle.graph.specs.Rows.{noEdge}
+use Rattle.table.specs.declared.types.Kind.{Kind}
+use Rattle.table.specs.declared.types.Kind.the-variants.{Check, Adjust, Wait}
+use Rattle.table.specs.declared.types.Refusal.the-variants.{BadEdition, ManySteps, BadKind, OutOfRange, BadNameByte, ManyEdges, BadEnd, Spare}
+use Rattle.table.specs.declared.types.Step.{Step}
+use Rattle.table.specs.Limits.{edition, maxSteps, maxEdges, maxKind, maxTolerance, minMinutes, maxMinutes, minName, maxName, minNameByte, maxNameByte, minGap, maxGap, maxWeight}
+use Rattle.table.specs.Refusal.{done}
+use Rattle.table.specs.Number.{Read, got, fault, andThen, judge, byteAt, numberAt, numberIn, many, counted}
+use Rattle.table.specs.Table.{adjustAt, waitAt, kindAt, nameByteAt, nameAt, namedAt, stepAt, endAt, edgeBetween, edgeAt, stepsAt, edgesAt, listsAt, tableAt, outcome, read, Contents}
+use Rattle.table.specs.Calls.{noStep}
+use Rattle.table.specs.Fair.{FairStep, FairEdge, Fair}
+use Rattle.table.proofs.NumberLaws.{in-limits}
+use Rattle.table.proofs.InverseLaws.{never, came, passed, both, got-value, got-place, many-length, many-each, many-width}
+use Rattle.table.proofs.PlaceLaws.{byte-place, number-place, limits-place}
+
+-- ---- steps
+
+-- a kind takes at most six bytes
+kind-place : (s : List ℕ) (at : ℕ) {k : Kind} {p : ℕ} → kindAt s at ≡ got k p → p ≤ at + 6
+unfolding kindAt adjustAt waitAt
+kind-place s at {k} {p} e =
+    let c = came (numberIn 0 maxKind BadKind s at) _ e in
+    go (eqb (c .value) 0) (eqb (c .value) 1) (c .place) (limits-place 0 maxKind BadKind s at (c .first) .1) (c .next)
+  where
+    go : (t u : Bool) (q : ℕ) → q ≤ at + 3
+        → cond t (got Check q) (cond u (andThen (numberIn 0 maxTolerance OutOfRange s q) λ t p. got (Adjust t) p) (andThen (numberIn minMinutes maxMinutes OutOfRange s q) λ m p. got (Wait m) p)) ≡ got k p
+        → p ≤ at + 6
+    go true u q h e = omega (arith, got-place e)
+    go false true q h e =
+        let c = came (numberIn 0 maxTolerance OutOfRange s q) _ e in
+        omega (arith, got-place (c .next), limits-place 0 maxTolerance OutOfRange s q (c .first))
+    go false false q h e =
+        let c = came (numberIn minMinutes maxMinutes OutOfRange s q) _ e in
+        omega (arith, got-place (c .next), limits-place minMinutes maxMinutes OutOfRange s q (c .first))
+
+-- name bytes stand one behind the other, within the table
+name-bytes : (s : List ℕ) (k at : ℕ) {l : List ℕ} {e : ℕ} → at ≤ length s → many (nameByteAt s) k at ≡ got l e → (length l ≡ k) × (e ≡ at + k) × (e ≤ length s)
+unfolding many nameByteAt
+name-bytes s zero at h g = (ap length (sym (got-value g)), omega (arith, got-place g), omega (arith, got-place g))
+name-bytes s (suc k) at h g =
+    let one = came (andThen (byteAt s at) λ b p. judge (leb minNameByte b && leb b maxNameByte) BadNameByte (got b p)) _ g in
+    let byte = came (byteAt s at) _ (one .first) in
+    let good = passed (leb minNameByte (byte .value) && leb (byte .value) maxNameByte) BadNameByte _ (byte .next) in
+    let p = byte-place s at (byte .first) in
+    let q = got-place (good .1) in
+    let rest = came (many (nameByteAt s) k (one .place)) _ (one .next) in
+    let ih = name-bytes s k (one .place) (omega arith) (rest .first) in
+    (ap length (sym (got-value (rest .next))) ∙ ap suc (ih .0), omega (arith, got-place (rest .next)), omega (arith, got-place (rest .next)))
+
+-- a name is as long as it was to be
+name-place : (s : List ℕ) (k at : ℕ) {len e : ℕ} → at ≤ length s → nameAt s k at ≡ got len e → (len ≡ k) × (e ≡ at + k) × (e ≤ length s)
+unfolding nameAt
+name-place s k at {len} {e} h g = go (many (nameByteAt s) k at) refl g
+  where
+    go : (x : Read (List ℕ)) → many (nameByteAt s) k at ≡ x → counted x ≡ got len e → (len ≡ k) × (e ≡ at + k) × (e ≤ length s)
+    go (got l q) f g =
+        let b = name-bytes s k at h f in
+        (omega (arith, got-value g), omega (arith, got-place g), omega (arith, got-place g))
+    go (fault r) f g = never g
+
+-- a step takes at most 25 bytes
+step-fair : (s : List ℕ) (at : ℕ) {st : Step} {p : ℕ} → stepAt s at ≡ got st p → FairStep s st × (p ≤ at + 25)
+unfolding stepAt namedAt
+step-fair s at {st} {p} e =
+    let k = came (kindAt s at) _ e in
+    let l = came (numberIn minName maxName OutOfRange s (k .place)) _ (k .next) in
+    let n = came (nameAt s (l .value) (l .place)) _ (l .next) in
+    let lim = in-limits minName maxName OutOfRange s (k .place) (l .first) in
+    let took = limits-place minName maxName OutOfRange s (k .place) (l .first) in
+    let name = name-place s (l .value) (l .place) (took .2) (n .first) in
+    let kind = kind-place s at (k .first) in
+    let q = got-place (n .next) in (
+      subst (FairStep s) (got-value (n .next))
+          (record { some = omega arith; short = omega arith; inside = omega arith }),
+      omega arith,
+    )
+
+-- ---- edges
+
+end-fair : (s : List ℕ) (n but at : ℕ) {v p : ℕ} → endAt s n but at ≡ got v p → (v < n) × (v ≡ but → ⊥) × (p ≤ at + 3)
+unfolding endAt
+end-fair s n but at {v} {p} e =
+    let c = came (numberAt s at) _ e in
+    let t = passed (ltb (c .value) n && not (eqb (c .value) but)) BadEnd _ (c .next) in
+    let b = both (ltb (c .value) n) (not (eqb (c .value) but)) (t .0) in
+    let w = got-value (t .1) in
+    let q = got-place (t .1) in (
+      omega (arith, ltb-true (c .value) n (b .0)),
+      λ h. apart (c .value) (eqb (c .value) but) refl (b .1) (w ∙ h),
+      omega (arith, number-place s at (c .first)),
+    )
+  where
+    apart : (x : ℕ) (t : Bool) → eqb x but ≡ t → not t ≡ true → x ≡ but → ⊥
+    apart x true e f h = let z : _≡_ {A = ℕ} 0 1 = cc in omega arith
+    apart x false e f h = eqb-false x but e h
+
+-- an edge takes at most 12 bytes
+edge-fair : (s : List ℕ) (n at : ℕ) {x : Edge} {p : ℕ} → edgeAt s n at ≡ got x p → FairEdge n x × (p ≤ at + 12)
+unfolding edgeAt edgeBetween
+edge-fair s n at {x} {p} e =
+    let a = came (endAt s n n at) _ e in
+    let b = came (endAt s n (a .value) (a .place)) _ (a .next) in
+    let g = came (numberIn minGap maxGap OutOfRange s (b .place)) _ (b .next) in
+    let w = came (numberIn 0 maxWeight OutOfRange s (g .place)) _ (g .next) in
+    let from = end-fair s n n at (a .first) in
+    let to = end-fair s n (a .value) (a .place) (b .first) in
+    let gap = in-limits minGap maxGap OutOfRange s (b .place) (g .first) in
+    let weight = in-limits 0 maxWeight OutOfRange s (g .place) (w .first) in
+    let q = limits-place minGap maxGap OutOfRange s (b .place) (g .first) in
+    let r = limits-place 0 maxWeight OutOfRange s (g .place) (w .first) in
+    let z = got-place (w .next) in (
+      subst (FairEdge n) (got-value (w .next))
+          (record { from-in = from .0; to-in = to .0; apart = to .1; gap-some = gap .0; gap-low = gap .1; weight-low = weight .1 }),
+      omega arith,
+    )
+
+-- ---- the table
+
+-- three bytes for the edition, three for each count, at most 25 a step and 12 an edge
+table-fair : (s : List ℕ) {c : Contents} {p : ℕ} → tableAt s 0 ≡ got c p → Fair s c
+unfolding tableAt listsAt stepsAt edgesAt
+table-fair s {c} {p} e =
+    let ed = came (numberIn edition edition BadEdition s 0) _ e in
+    let st = came (stepsAt s (ed .place)) _ (ed .next) in
+    let es = came (edgesAt s (length (st .value)) (st .place)) _ (st .next) in
+    let last = passed (eqb (es .place) (length s)) Spare _ (es .next) in
+    let n = came (numberIn 0 maxSteps ManySteps s (ed .place)) _ (st .first) in
+    let m = came (numberIn 0 maxEdges ManyEdges s (st .place)) _ (es .first) in
+    let nl = many-length (stepAt s) (n .value) (n .place) (n .next) in
+    let ml = many-length (edgeAt s (length (st .value))) (m .value) (m .place) (m .next) in
+    let few = in-limits 0 maxSteps ManySteps s (ed .place) (n .first) .1 in
+    let fewer = in-limits 0 maxEdges ManyEdges s (st .place) (m .first) .1 in
+    let wide = many-width (stepAt s) 25 (λ at a q h. step-fair s at h .1) (n .value) (n .place) (n .next) in
+    let wider = many-width (edgeAt s (length (st .value))) 12 (λ at a q h. edge-fair s (length (st .value)) at h .1) (m .value) (m .place) (m .next) in
+    let end = eqb-true (es .place) (length s) (last .0) in
+    let a = limits-place edition edition BadEdition s 0 (ed .first) in
+    let b = limits-place 0 maxSteps ManySteps s (ed .place) (n .first) in
+    let d = limits-place 0 maxEdges ManyEdges s (st .place) (m .first) in
+    subst (Fair s) (got-value (last .1))
+    (record {
+      few-steps = omega arith;
+      few-edges = omega arith;
+      each-step = many-each (stepAt s) (FairStep s) noStep (λ at a q h. step-fair s at h .0) (n .value) (n .place) (n .next);
+      each-edge = many-each (edgeAt s (length (st .value))) (FairEdge (length (st .value))) noEdge (λ at a q h. edge-fair s (length (st .value)) at h .0) (m .value) (m .place) (m .next);
+      short = omega arith;
+    })
+
+-- what is accepted is fair
+pub read-fair : (s : List ℕ) {c : Contents} → read s ≡ done c → Fair s c
+unfolding read
+read-fair s {c} e = go (tableAt s 0) refl e
+  where
+    go : (x : Read Contents) → tableAt s 0 ≡ x → outcome x ≡ done c → Fair s c
+    go (got t p) f e = let k : t ≡ c = cc in subst (Fair s) k (table-fair s f)
+    go (fault r) f e = let z : _≡_ {A = ℕ} 0 1 = cc in absurd (omega arith)

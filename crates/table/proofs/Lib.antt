@@ -1,0 +1,10 @@
+pub mod NumberLaws
+pub mod ManyLaws
+pub mod NameLaws
+pub mod ListLaws
+pub mod WholeLaws
+pub mod InverseLaws
+pub mod PlaceLaws
+pub mod FairLaws
+pub mod AnswerLaws
+pub mod StarredLaws

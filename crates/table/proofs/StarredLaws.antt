@@ -1,0 +1,11 @@
+-- The starred cases of document 01 that the reader alone decides, computed from the definitions.
+use mathlib.Core.Path.{_≡_, refl}
+use mathlib.Core.List.{map}
+use Rattle.table.specs.Number.{byteAt, numberAt, numberIn, many}
+use Rattle.table.specs.Table.{adjustAt, waitAt, kindAt, nameByteAt, nameAt, namedAt, stepAt, endAt, edgeBetween, edgeAt, stepsAt, edgesAt, listsAt, tableAt, read}
+use Rattle.table.specs.Calls.{countsCall}
+use Rattle.table.specs.Starred.{Case, tell, starred}
+
+pub starred-hold : map (λ (c : Case). tell (countsCall (c .input))) starred ≡ map (λ (c : Case). c .told) starred
+unfolding byteAt numberAt numberIn many adjustAt waitAt kindAt nameByteAt nameAt namedAt stepAt endAt edgeBetween edgeAt stepsAt edgesAt listsAt tableAt read countsCall
+starred-hold = refl

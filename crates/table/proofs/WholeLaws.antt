@@ -1,0 +1,60 @@
+-- A list that was read into an array, and a whole table made of two of them.
+use mathlib.Core.Path.{_≡_, sym, ap, _∙_}
+use mathlib.Core.List.{List}
+use Prim.Native.Nat.{ℕ, _-_}
+use native.Mathlib.Omega.{arith}
+use borrow.Author.Tests.{eq-eqb, ne-eqb}
+use lib.ListN.{length, take, take-append-drop}
+use lib.Seq.{length-take-le}
+use Rattle.graph.specs.declared.Edge.{Edge}
+use Rattle.graph.specs.Rows.{noEdge}
+use Rattle.table.specs.declared.types.Refusal.{Refusal}
+use Rattle.table.specs.declared.types.Refusal.the-variants.{Spare}
+use Rattle.table.specs.declared.types.Step.{Step}
+use Rattle.table.specs.declared.types.Verdict.{Verdict}
+use Rattle.table.specs.declared.types.Verdict.the-variants.{Accepted, Refused}
+use Rattle.table.specs.Number.{Read, got, fault}
+use Rattle.table.specs.Table.{stepsAt, edgesAt, listsAt}
+use Rattle.table.specs.Limits.{maxSteps, maxEdges}
+use Rattle.table.specs.Calls.{padded, noStep, tableOf}
+use Rattle.table.specs.Reads.{judged, ListRead}
+
+module _ {A : Type 0} {k : ℕ} {blank : A} {what : Read (List A)} {verdict : Verdict} {n : ℕ} {list : List A} {next : ℕ}
+    (r : ListRead k blank what verdict n list next) where
+  pub read-refused : {f : Refusal} → verdict ≡ Refused f → what ≡ fault f
+  read-refused e = sym (r .says) ∙ ap (λ v. judged v (take n list) next) e
+
+  pub read-accepted : verdict ≡ Accepted → what ≡ got (take n list) next
+  read-accepted e = sym (r .says) ∙ ap (λ v. judged v (take n list) next) e
+
+  pub read-count : length (take n list) ≡ n
+  read-count = length-take-le n list (omega (arith, r .few, r .long))
+
+  pub read-padded : padded k blank (take n list) ≡ list
+  unfolding padded
+  read-padded = rw (read-count, ← r .rest) (take-append-drop n list)
+
+module _ (s : List ℕ) (at : ℕ) where
+  pub lists-stop : {f : Refusal} → stepsAt s at ≡ fault f → listsAt s at ≡ fault f
+  unfolding listsAt
+  lists-stop e = rw e
+
+  module _ {steps : List Step} {p : ℕ} (n : ℕ) (e : stepsAt s at ≡ got steps p) (l : length steps ≡ n) where
+    pub lists-cut : {f : Refusal} → edgesAt s n p ≡ fault f → listsAt s at ≡ fault f
+    unfolding listsAt
+    lists-cut g = rw (e, l, g)
+
+    module _ {edges : List Edge} {q : ℕ} (g : edgesAt s n p ≡ got edges q) where
+      pub lists-spare : (q ≡ length s → ⊥) → listsAt s at ≡ fault Spare
+      unfolding listsAt
+      lists-spare h = rw (e, l, g, ne-eqb q (length s) h)
+
+      pub lists-whole : q ≡ length s → listsAt s at ≡ got (record { steps = steps; edges = edges }) q
+      unfolding listsAt
+      lists-whole h = rw (e, l, g, eq-eqb q (length s) h)
+
+-- two lists that were read make the table of what they hold
+pub table-whole : {x : Read (List Step)} {v : Verdict} {n : ℕ} {steps : List Step} {p : ℕ} {y : Read (List Edge)} {w : Verdict} {m : ℕ} {edges : List Edge} {q : ℕ}
+    → ListRead maxSteps noStep x v n steps p → ListRead maxEdges noEdge y w m edges q
+    → tableOf (take n steps) (take m edges) ≡ record { n = n; steps = steps; m = m; edges = edges }
+table-whole r t = rw (read-count r, read-padded r, read-count t, read-padded t)

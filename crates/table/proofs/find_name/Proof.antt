@@ -1,0 +1,43 @@
+-- `find_name` meets its contract: an accepted table has at most 64 steps, so the index is within the array.
+use native.Mathlib.Omega.{arith}
+use Rattle.table.proofs.AnswerLaws.{told-refused, told, missing, found, few, name-refused}
+use borrow.Author.Needs.{needs}
+use Rattle.table.proofs.find_name.Statement.{statement}
+use Rattle.table.proofs.find_name.Tie as tie
+
+read-table-requires : tie.Need-read-table-requires
+read-table-requires c κs = search needs
+
+enum-known-verdict : tie.Need-enum-known-verdict
+enum-known-verdict c = search needs
+
+enum-told : tie.Need-enum-told
+enum-told c = search needs
+
+returns : tie.Need-returns
+returns c = missing _ _ (told _ _ (c .before .before .before .before .read-table .ensures) (c .before .before .enum-told .given .1)) _ (c .if1 .taken)
+
+mul-step : tie.Need-mul-step
+mul-step c = omega (arith, few _ _ (told _ _ (c .before .before .before .before .read-table .ensures) (c .before .before .enum-told .given .1)))
+
+element-copy-out-step : tie.Need-element-copy-out-step
+element-copy-out-step c = omega (arith, few _ _ (told _ _ (c .before .before .before .before .read-table .ensures) (c .before .before .enum-told .given .1)))
+
+returns-2 : tie.Need-returns-2
+returns-2 c = name-refused _ (told-refused _ _ (c .before .before .before .read-table .ensures) (c .before .verdict .given .1)) _
+
+returns-3 : tie.Need-returns-3
+returns-3 c = found _ _ (told _ _ (c .before .before .before .before .before .read-table .ensures) (c .before .before .before .enum-told .given .1)) _ (c .before .if1 .left)
+
+pub find-name-spec : {M : Type 1} → statement M
+find-name-spec =
+    tie.close
+    (tie.spec
+    read-table-requires
+    enum-known-verdict
+    enum-told
+    returns
+    mul-step
+    element-copy-out-step
+    returns-2
+    returns-3)

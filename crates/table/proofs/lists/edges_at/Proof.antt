@@ -1,0 +1,43 @@
+-- `lists::edges_at` meets its contract: the count is within the limit, so the edges fit the array.
+use mathlib.Core.Path.{sym, ap, _∙_}
+use Rattle.table.specs.Number.{numberRead}
+use Rattle.table.specs.Table.{edgesAt}
+use Rattle.table.proofs.NumberLaws.{in-limits}
+use borrow.Author.Needs.{needs}
+use Rattle.table.proofs.lists.edges_at.Statement.{statement}
+use Rattle.table.proofs.lists.edges_at.Tie as tie
+
+number-in-requires : tie.Need-number-in-requires
+number-in-requires c κs = search needs
+
+enum-known-f : tie.Need-enum-known-f
+enum-known-f c = search needs
+
+no-edges-requires : tie.Need-no-edges-requires
+no-edges-requires c κs = search needs
+
+enum-known-m : tie.Need-enum-known-m
+enum-known-m c = search needs
+
+many-edges-requires : tie.Need-many-edges-requires
+many-edges-requires c κs = in-limits _ _ _ _ _ (sym (c .before .before .before .number-in .ensures) ∙ ap numberRead (c .before .m .given .1)) .1
+
+returns : tie.Need-returns
+unfolding edgesAt
+returns c = simp (← c .before .before .before .before .number-in .ensures, c .before .before .f .given .1) (c .no-edges .ensures)
+
+returns-2 : tie.Need-returns-2
+unfolding edgesAt
+returns-2 c = simp (← c .before .before .before .before .number-in .ensures, c .before .before .m .given .1) (c .many-edges .ensures)
+
+pub edges-at-spec : {M : Type 1} → statement M
+edges-at-spec =
+    tie.close
+    (tie.spec
+    number-in-requires
+    enum-known-f
+    no-edges-requires
+    enum-known-m
+    many-edges-requires
+    returns
+    returns-2)

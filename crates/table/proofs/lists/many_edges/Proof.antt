@@ -1,0 +1,77 @@
+-- `lists::many_edges` meets its contract: the first i edges stand in the array, the other entries are blank (`Filling`).
+use borrow.Author.Needs.{needs}
+use mathlib.Core.Path.{sym, ap, _∙_}
+use Prim.Native.Nat.{_-_}
+use native.Mathlib.Omega.{arith}
+use Rattle.table.specs.Limits.{maxEdges}
+use Rattle.table.specs.Table.{edgeAt}
+use Rattle.graph.specs.Rows.{noEdge}
+use Rattle.table.specs.Reads.{edgeRead}
+use Rattle.table.proofs.ListLaws.{Filling, filling-start, filling-next, filling-fault, filling-end}
+use Rattle.table.proofs.lists.many_edges.Statement.{statement}
+use Rattle.table.proofs.lists.many_edges.Tie as tie
+
+abbrev Inv-loop : tie.InvT-loop
+Inv-loop s n at m list₀ p₀ i₀ list p i = Filling (edgeAt s n) maxEdges noEdge m at i list p
+
+abbrev μ-loop : tie.MeasureT-loop
+μ-loop s n at m list₀ p₀ i₀ list p i = m - i
+
+blank-edges-requires : tie.Need-blank-edges-requires Inv-loop μ-loop
+blank-edges-requires c κs = search needs
+
+loop-holds : tie.Need-loop-holds Inv-loop μ-loop
+loop-holds c = rw (c .blank-edges .ensures) (filling-start _ _ _ _ _)
+
+edge-at-requires : tie.Need-edge-at-requires Inv-loop μ-loop
+edge-at-requires c κs = search needs
+
+enum-known-f : tie.Need-enum-known-f Inv-loop μ-loop
+enum-known-f c = search needs
+
+no-edges-requires : tie.Need-no-edges-requires Inv-loop μ-loop
+no-edges-requires c κs = search needs
+
+returns : tie.Need-returns Inv-loop μ-loop
+returns c = rw (filling-fault _ _ _ _ _ _ _ _ (c .before .before .before .before .before .before .loop .inv) _ (c .before .before .before .before .before .loop-test .taken) (sym (c .before .before .before .before .edge-at .ensures) ∙ ap edgeRead (c .before .before .f .given .1))) (c .no-edges .ensures)
+
+enum-known-edge : tie.Need-enum-known-edge Inv-loop μ-loop
+enum-known-edge c = search needs
+
+mul-list : tie.Need-mul-list Inv-loop μ-loop
+mul-list c = search needs
+
+array-set-from-list : tie.Need-array-set-from-list Inv-loop μ-loop
+array-set-from-list c = omega (arith, c .before .before .before .before .before .loop .inv .long)
+
+add-i : tie.Need-add-i Inv-loop μ-loop
+add-i c = search needs
+
+loop-less : tie.Need-loop-less Inv-loop μ-loop
+loop-less c = search needs
+
+loop-again : tie.Need-loop-again Inv-loop μ-loop
+loop-again c = filling-next _ _ _ _ _ _ _ _ (c .before .before .before .before .before .loop .inv) _ _ (c .before .before .before .before .before .before .before .before .pre) (c .before .before .before .before .loop-test .taken) (sym (c .before .before .before .edge-at .ensures) ∙ ap edgeRead (c .before .edge .given .1))
+
+returns-2 : tie.Need-returns-2 Inv-loop μ-loop
+returns-2 c = filling-end _ _ _ _ _ _ _ _ (c .before .loop .inv) (c .before .before .before .before .pre) (c .loop-test .left)
+
+pub many-edges-spec : {M : Type 1} → statement M
+many-edges-spec =
+    tie.close
+    (tie.spec
+    Inv-loop
+    μ-loop
+    blank-edges-requires
+    loop-holds
+    edge-at-requires
+    enum-known-f
+    no-edges-requires
+    returns
+    enum-known-edge
+    mul-list
+    array-set-from-list
+    add-i
+    loop-less
+    loop-again
+    returns-2)

@@ -1,0 +1,30 @@
+-- `refuse_name` meets its contract: the answer of `find_name` tells the outcome, and that its number.
+use mathlib.Core.Path.{sym, ap, _∙_}
+use Rattle.table.specs.Calls.{refusalOf}
+use Rattle.table.proofs.AnswerLaws.{answer-refused, answer-found}
+use borrow.Author.Needs.{needs}
+use Rattle.table.proofs.refuse_name.Statement.{statement}
+use Rattle.table.proofs.refuse_name.Tie as tie
+
+find-name-requires : tie.Need-find-name-requires
+find-name-requires c κs = search needs
+
+enum-known-f : tie.Need-enum-known-f
+enum-known-f c = search needs
+
+number-of-requires : tie.Need-number-of-requires
+number-of-requires c κs = search needs
+
+enum-told : tie.Need-enum-told
+enum-told c = search needs
+
+returns : tie.Need-returns
+returns c = c .number-of .ensures ∙ ap refusalOf (sym (answer-refused _ _ (c .before .before .before .before .find-name .ensures) (c .before .before .f .given .1)))
+
+returns-2 : tie.Need-returns-2
+returns-2 c = ap refusalOf (sym (answer-found _ _ (c .before .before .find-name .ensures) (c .enum-told .given .1)))
+
+pub refuse-name-spec : {M : Type 1} → statement M
+refuse-name-spec =
+    tie.close
+    (tie.spec find-name-requires enum-known-f number-of-requires enum-told returns returns-2)

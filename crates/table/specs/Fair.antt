@@ -1,0 +1,33 @@
+-- What the layers above may count on in a table that was accepted. It follows from `read`: see proofs/FairLaws.antt.
+use mathlib.Core.Path.{_≡_}
+use mathlib.Core.List.{List}
+use Prim.Native.Nat.{ℕ, _+_, _≤_, _<_}
+use lib.ListN.{length, getD}
+use Rattle.graph.specs.declared.Edge.{Edge}
+use Rattle.graph.specs.Rows.{noEdge}
+use Rattle.table.specs.declared.types.Step.{Step}
+use Rattle.table.specs.Limits.{maxSteps, maxEdges, minName, maxName, minGap, maxGap, maxWeight, maxTable}
+use Rattle.table.specs.Table.{Contents}
+use Rattle.table.specs.Calls.{noStep}
+
+-- a step's name has 1 to 16 bytes and lies within the table
+pub record FairStep (s : List ℕ) (step : Step) : Type 0 where
+  pub some : minName ≤ step .len
+  pub short : step .len ≤ maxName
+  pub inside : step .start + step .len ≤ length s
+
+-- an edge joins two different steps, of n steps, and has a gap and a weight in range
+pub record FairEdge (n : ℕ) (e : Edge) : Type 0 where
+  pub from-in : e .from < n
+  pub to-in : e .to < n
+  pub apart : e .to ≡ e .from → ⊥
+  pub gap-some : minGap ≤ e .gap
+  pub gap-low : e .gap ≤ maxGap
+  pub weight-low : e .weight ≤ maxWeight
+
+pub record Fair (s : List ℕ) (c : Contents) : Type 0 where
+  pub few-steps : length (c .steps) ≤ maxSteps
+  pub few-edges : length (c .edges) ≤ maxEdges
+  pub each-step : (i : ℕ) → i < length (c .steps) → FairStep s (getD (c .steps) i noStep)
+  pub each-edge : (i : ℕ) → i < length (c .edges) → FairEdge (length (c .steps)) (getD (c .edges) i noEdge)
+  pub short : length s ≤ maxTable

@@ -1,0 +1,54 @@
+-- The limits of document 01, each named once for the definitions; `src/limits.rt` names the same numbers for the code.
+use Prim.Native.Nat.{ℕ}
+
+-- the edition that a table says it has
+abbrev pub edition : ℕ
+edition = 1
+
+abbrev pub maxSteps : ℕ
+maxSteps = 64
+
+abbrev pub maxEdges : ℕ
+maxEdges = 192
+
+-- the kinds are numbered 0 to 2
+abbrev pub maxKind : ℕ
+maxKind = 2
+
+-- of an adjustment, in hundredths of a dB
+abbrev pub maxTolerance : ℕ
+maxTolerance = 9999
+
+-- of a wait
+abbrev pub minMinutes : ℕ
+minMinutes = 1
+
+abbrev pub maxMinutes : ℕ
+maxMinutes = 240
+
+-- bytes in a name
+abbrev pub minName : ℕ
+minName = 1
+
+abbrev pub maxName : ℕ
+maxName = 16
+
+-- the bytes that a name may have
+abbrev pub minNameByte : ℕ
+minNameByte = 0x21
+
+abbrev pub maxNameByte : ℕ
+maxNameByte = 0x7E
+
+abbrev pub minGap : ℕ
+minGap = 1
+
+abbrev pub maxGap : ℕ
+maxGap = 4
+
+abbrev pub maxWeight : ℕ
+maxWeight = 255
+
+-- no accepted table is longer
+abbrev pub maxTable : ℕ
+maxTable = 3913

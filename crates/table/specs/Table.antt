@@ -1,0 +1,89 @@
+-- The table of document 01: an edition, the steps behind their count, the edges behind theirs, and no byte more.
+use mathlib.Core.Bool.{not, _&&_, cond}
+use mathlib.Core.List.{List}
+use Prim.Native.Nat.{ℕ}
+use lib.Dec.{leb, ltb, eqb}
+use lib.ListN.{length}
+use Rattle.graph.specs.declared.Edge.{Edge}
+use Rattle.table.specs.declared.types.Kind.{Kind}
+use Rattle.table.specs.declared.types.Kind.the-variants.{Check, Adjust, Wait}
+use Rattle.table.specs.declared.types.Step.{Step}
+use Rattle.table.specs.declared.types.Refusal.the-variants.{BadEdition, ManySteps, BadKind, OutOfRange, BadNameByte, ManyEdges, BadEnd, Spare}
+use Rattle.table.specs.Limits.{edition, maxSteps, maxEdges, maxKind, maxTolerance, minMinutes, maxMinutes, minName, maxName, minNameByte, maxNameByte, minGap, maxGap, maxWeight}
+use Rattle.table.specs.Refusal.{Outcome, done, refused}
+use Rattle.table.specs.Number.{Read, got, fault, andThen, judge, byteAt, numberAt, numberIn, many, counted}
+
+-- what an adjustment adds to its kind
+unfoldable pub adjustAt : List ℕ → ℕ → Read Kind
+adjustAt s at = andThen (numberIn 0 maxTolerance OutOfRange s at) λ t p. got (Adjust t) p
+
+-- what a wait adds
+unfoldable pub waitAt : List ℕ → ℕ → Read Kind
+waitAt s at = andThen (numberIn minMinutes maxMinutes OutOfRange s at) λ m p. got (Wait m) p
+
+-- a kind: 0 for a check, which adds nothing, 1 for an adjustment, 2 for a wait
+unfoldable pub kindAt : List ℕ → ℕ → Read Kind
+kindAt s at = andThen (numberIn 0 maxKind BadKind s at) λ k p. cond (eqb k 0) (got Check p) (cond (eqb k 1) (adjustAt s p) (waitAt s p))
+
+unfoldable pub nameByteAt : List ℕ → ℕ → Read ℕ
+nameByteAt s at = andThen (byteAt s at) λ b p. judge (leb minNameByte b && leb b maxNameByte) BadNameByte (got b p)
+
+-- a name of so many bytes: its length, and the place behind it
+unfoldable pub nameAt : List ℕ → ℕ → ℕ → Read ℕ
+nameAt s len at = counted (many (nameByteAt s) len at)
+
+-- the name that makes a step of a kind: its length, then its bytes
+unfoldable pub namedAt : List ℕ → Kind → ℕ → Read Step
+namedAt s kind at =
+    andThen (numberIn minName maxName OutOfRange s at) λ l p.
+    andThen (nameAt s l p) λ len e. got (record { kind = kind; start = p; len = len }) e
+
+-- a step: its kind with what the kind adds, and its name
+unfoldable pub stepAt : List ℕ → ℕ → Read Step
+stepAt s at = andThen (kindAt s at) λ kind p. namedAt s kind p
+
+-- one end of an edge: a step's number, of n steps, other than `but`
+unfoldable pub endAt : List ℕ → ℕ → ℕ → ℕ → Read ℕ
+endAt s n but at = andThen (numberAt s at) λ v p. judge (ltb v n && not (eqb v but)) BadEnd (got v p)
+
+-- the gap and the weight of an edge whose ends are known
+unfoldable pub edgeBetween : List ℕ → ℕ → ℕ → ℕ → Read Edge
+edgeBetween s from to at =
+    andThen (numberIn minGap maxGap OutOfRange s at) λ gap p.
+    andThen (numberIn 0 maxWeight OutOfRange s p) λ weight e.
+    got (record { from = from; to = to; gap = gap; weight = weight }) e
+
+-- an edge (document 01: an arrow) of a table of n steps. No step has the number n, so `from` may be any step; `to` is another one
+unfoldable pub edgeAt : List ℕ → ℕ → ℕ → Read Edge
+edgeAt s n at = andThen (endAt s n n at) λ from p. andThen (endAt s n from p) λ to q. edgeBetween s from to q
+
+-- the count of steps, then the steps
+unfoldable pub stepsAt : List ℕ → ℕ → Read (List Step)
+stepsAt s at = andThen (numberIn 0 maxSteps ManySteps s at) λ n p. many (stepAt s) n p
+
+-- the count of edges, then the edges
+unfoldable pub edgesAt : List ℕ → ℕ → ℕ → Read (List Edge)
+edgesAt s n at = andThen (numberIn 0 maxEdges ManyEdges s at) λ m p. many (edgeAt s n) m p
+
+-- what a table says
+pub record Contents : Type 0 where
+  pub steps : List Step
+  pub edges : List Edge
+
+-- steps and edges, and nothing behind them
+unfoldable pub listsAt : List ℕ → ℕ → Read Contents
+listsAt s at =
+    andThen (stepsAt s at) λ steps p.
+    andThen (edgesAt s (length steps) p) λ edges e.
+    judge (eqb e (length s)) Spare (got (record { steps = steps; edges = edges }) e)
+
+unfoldable pub tableAt : List ℕ → ℕ → Read Contents
+tableAt s at = andThen (numberIn edition edition BadEdition s at) λ _ p. listsAt s p
+
+abbrev pub outcome : {A : Type 0} → Read A → Outcome A
+outcome (got a p) = done a
+outcome (fault r) = refused r
+
+-- what the bytes say, or the first fault
+unfoldable pub read : List ℕ → Outcome Contents
+read s = outcome (tableAt s 0)

@@ -1,0 +1,70 @@
+// Edges: two different steps, a gap and a weight.
+use crate::limits::MAX_GAP;
+use crate::limits::MAX_WEIGHT;
+use crate::limits::MIN_GAP;
+use crate::number::NumberRead;
+use crate::number::number_at;
+use crate::number::number_in;
+use crate::types::Refusal;
+use graph::Edge;
+ghost use mathlib.Core.Path.{_≡_};
+ghost use Rattle.table.specs.Number.{numberRead};
+ghost use Rattle.table.specs.Table.{endAt, edgeBetween, edgeAt};
+ghost use Rattle.table.specs.Reads.{edgeRead};
+
+pub enum EdgeRead {
+    Got(Edge, usize),
+    Fault(Refusal),
+}
+
+// The number of a step, of n steps, that is not `but`.
+fn end_at(s: &[u8], n: usize, but: usize, at: usize) -> NumberRead
+    ensures { λ r. ⌜ numberRead r ≡ endAt (now (s .entry)) n but at ⌝ }
+{
+    match number_at(s, at) {
+        NumberRead::Fault(f) => NumberRead::Fault(f),
+        NumberRead::Got(v, p) => {
+            if n <= v {
+                return NumberRead::Fault(Refusal::BadEnd);
+            }
+            if v == but {
+                return NumberRead::Fault(Refusal::BadEnd);
+            }
+            NumberRead::Got(v, p)
+        }
+    }
+}
+
+// The gap and the weight of an edge whose ends are known.
+fn edge_between(s: &[u8], from: usize, to: usize, at: usize) -> EdgeRead
+    ensures { λ r. ⌜ edgeRead r ≡ edgeBetween (now (s .entry)) from to at ⌝ }
+{
+    match number_in(s, at, MIN_GAP, MAX_GAP, Refusal::OutOfRange) {
+        NumberRead::Fault(f) => EdgeRead::Fault(f),
+        NumberRead::Got(gap, p) => match number_in(s, p, 0, MAX_WEIGHT, Refusal::OutOfRange) {
+            NumberRead::Fault(f) => EdgeRead::Fault(f),
+            NumberRead::Got(weight, e) => EdgeRead::Got(
+                Edge {
+                    from: from,
+                    to: to,
+                    gap: gap,
+                    weight: weight,
+                },
+                e,
+            ),
+        },
+    }
+}
+
+// An edge of a table of n steps.
+pub fn edge_at(s: &[u8], n: usize, at: usize) -> EdgeRead
+    ensures { λ r. ⌜ edgeRead r ≡ edgeAt (now (s .entry)) n at ⌝ }
+{
+    match end_at(s, n, n, at) {
+        NumberRead::Fault(f) => EdgeRead::Fault(f),
+        NumberRead::Got(from, p) => match end_at(s, n, from, p) {
+            NumberRead::Fault(f) => EdgeRead::Fault(f),
+            NumberRead::Got(to, q) => edge_between(s, from, to, q),
+        },
+    }
+}

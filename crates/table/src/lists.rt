@@ -1,0 +1,151 @@
+// The steps and the edges of a table, each list behind its count.
+use crate::edge::EdgeRead;
+use crate::edge::edge_at;
+use crate::limits::MAX_EDGES;
+use crate::limits::MAX_STEPS;
+use crate::number::NumberRead;
+use crate::number::number_in;
+use crate::step::StepRead;
+use crate::step::step_at;
+use crate::types::Kind;
+use crate::types::Refusal;
+use crate::types::Step;
+use crate::types::Verdict;
+use graph::Edge;
+ghost use mathlib.Core.Path.{_≡_};
+ghost use Prim.Native.Nat.{_≤_};
+ghost use lib.ListN.{replicate};
+ghost use Rattle.graph.specs.Rows.{noEdge};
+ghost use Rattle.table.specs.Limits.{maxSteps, maxEdges};
+ghost use Rattle.table.specs.Number.{fault, many};
+ghost use Rattle.table.specs.Table.{stepAt, stepsAt, edgeAt, edgesAt};
+ghost use Rattle.table.specs.Calls.{noStep};
+ghost use Rattle.table.specs.Reads.{ListRead};
+
+// The first n entries of the list and the place behind them, or the first fault, and then n is 0. The other entries are blank.
+pub struct Steps {
+    pub verdict: Verdict,
+    pub n: usize,
+    pub list: [Step; MAX_STEPS],
+    pub next: usize,
+}
+
+pub struct Edges {
+    pub verdict: Verdict,
+    pub m: usize,
+    pub list: [Edge; MAX_EDGES],
+    pub next: usize,
+}
+
+// An array of no steps.
+pub fn blank_steps() -> [Step; MAX_STEPS]
+    ensures { λ r. ⌜ r ≡ replicate maxSteps noStep ⌝ }
+{
+    [Step {
+        kind: Kind::Check,
+        start: 0,
+        len: 0,
+    }; MAX_STEPS]
+}
+
+// An array of no edges.
+pub fn blank_edges() -> [Edge; MAX_EDGES]
+    ensures { λ r. ⌜ r ≡ replicate maxEdges noEdge ⌝ }
+{
+    [Edge {
+        from: 0,
+        to: 0,
+        gap: 0,
+        weight: 0,
+    }; MAX_EDGES]
+}
+
+fn no_steps(f: Refusal) -> Steps
+    ensures { λ r. ⌜ ListRead maxSteps noStep (fault f) (r .verdict) (r .n) (r .list) (r .next) ⌝ }
+{
+    Steps {
+        verdict: Verdict::Refused(f),
+        n: 0,
+        list: blank_steps(),
+        next: 0,
+    }
+}
+
+fn no_edges(f: Refusal) -> Edges
+    ensures { λ r. ⌜ ListRead maxEdges noEdge (fault f) (r .verdict) (r .m) (r .list) (r .next) ⌝ }
+{
+    Edges {
+        verdict: Verdict::Refused(f),
+        m: 0,
+        list: blank_edges(),
+        next: 0,
+    }
+}
+
+// n steps, one behind the other.
+fn many_steps(s: &[u8], at: usize, n: usize) -> Steps
+    requires { ⌜ n ≤ maxSteps ⌝ }
+    ensures { λ r. ⌜ ListRead maxSteps noStep (many (stepAt (now (s .entry))) n at) (r .verdict) (r .n) (r .list) (r .next) ⌝ }
+{
+    let mut list = blank_steps();
+    let mut p = at;
+    for i in 0..n {
+        match step_at(s, p) {
+            StepRead::Fault(f) => return no_steps(f),
+            StepRead::Got(step, q) => {
+                list[i] = step;
+                p = q;
+            }
+        }
+    }
+    Steps {
+        verdict: Verdict::Accepted,
+        n: n,
+        list: list,
+        next: p,
+    }
+}
+
+// m edges of a table of n steps, one behind the other.
+fn many_edges(s: &[u8], n: usize, at: usize, m: usize) -> Edges
+    requires { ⌜ m ≤ maxEdges ⌝ }
+    ensures { λ r. ⌜ ListRead maxEdges noEdge (many (edgeAt (now (s .entry)) n) m at) (r .verdict) (r .m) (r .list) (r .next) ⌝ }
+{
+    let mut list = blank_edges();
+    let mut p = at;
+    for i in 0..m {
+        match edge_at(s, n, p) {
+            EdgeRead::Fault(f) => return no_edges(f),
+            EdgeRead::Got(edge, q) => {
+                list[i] = edge;
+                p = q;
+            }
+        }
+    }
+    Edges {
+        verdict: Verdict::Accepted,
+        m: m,
+        list: list,
+        next: p,
+    }
+}
+
+// The count of steps, then the steps.
+pub fn steps_at(s: &[u8], at: usize) -> Steps
+    ensures { λ r. ⌜ ListRead maxSteps noStep (stepsAt (now (s .entry)) at) (r .verdict) (r .n) (r .list) (r .next) ⌝ }
+{
+    match number_in(s, at, 0, MAX_STEPS, Refusal::ManySteps) {
+        NumberRead::Fault(f) => no_steps(f),
+        NumberRead::Got(n, p) => many_steps(s, p, n),
+    }
+}
+
+// The count of edges, then the edges, of a table of n steps.
+pub fn edges_at(s: &[u8], n: usize, at: usize) -> Edges
+    ensures { λ r. ⌜ ListRead maxEdges noEdge (edgesAt (now (s .entry)) n at) (r .verdict) (r .m) (r .list) (r .next) ⌝ }
+{
+    match number_in(s, at, 0, MAX_EDGES, Refusal::ManyEdges) {
+        NumberRead::Fault(f) => no_edges(f),
+        NumberRead::Got(m, p) => many_edges(s, n, p, m),
+    }
+}

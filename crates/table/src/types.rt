@@ -1,0 +1,75 @@
+// What the reader gives: steps, the table, and why there is none.
+use crate::limits::MAX_EDGES;
+use crate::limits::MAX_STEPS;
+use graph::Edge;
+
+// What a step is, with the number that its kind carries: hundredths of a dB for an adjustment, minutes for a wait.
+pub enum Kind {
+    Check,
+    Adjust(usize),
+    Wait(usize),
+}
+
+// A step: its kind, and where in the table its name stands.
+pub struct Step {
+    pub kind: Kind,
+    pub start: usize,
+    pub len: usize,
+}
+
+// Why a call is turned down; `numberOf` in specs/Refusal.antt gives each case its number.
+pub enum Refusal {
+    // The bytes end too early.
+    Cut,
+    // A number of more than three bytes.
+    Overlong,
+    BadEdition,
+    ManySteps,
+    BadKind,
+    OutOfRange,
+    BadNameByte,
+    ManyEdges,
+    BadEnd,
+    // Bytes follow the last edge.
+    Spare,
+    // The edges form a loop: the lowest step on one.
+    Loop(usize),
+    ManyPoints,
+    ShortBuffer,
+    NoStep,
+}
+
+pub enum Verdict {
+    Accepted,
+    Refused(Refusal),
+}
+
+// A table: its first n steps and m edges are there, the others are blank.
+pub struct Table {
+    pub n: usize,
+    pub steps: [Step; MAX_STEPS],
+    pub m: usize,
+    pub edges: [Edge; MAX_EDGES],
+}
+
+// A table, or why there is none; then the table is blank.
+pub struct TableRead {
+    pub verdict: Verdict,
+    pub table: Table,
+}
+
+pub struct Counts {
+    pub steps: usize,
+    pub edges: usize,
+}
+
+pub enum CountsAnswer {
+    Counted(Counts),
+    Refused(Refusal),
+}
+
+// Where the name of a step stands in the table: its start and its length.
+pub enum NameAnswer {
+    At(usize, usize),
+    Refused(Refusal),
+}

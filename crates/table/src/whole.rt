@@ -1,0 +1,62 @@
+// A whole table: its two lists, and nothing behind them.
+use crate::lists::blank_edges;
+use crate::lists::blank_steps;
+use crate::lists::edges_at;
+use crate::lists::steps_at;
+use crate::types::Refusal;
+use crate::types::Table;
+use crate::types::TableRead;
+use crate::types::Verdict;
+ghost use mathlib.Core.Path.{_≡_};
+ghost use Rattle.table.specs.Refusal.{refused};
+ghost use Rattle.table.specs.Table.{listsAt, outcome};
+ghost use Rattle.table.specs.Calls.{tableRead};
+
+// A refusal, with a blank table.
+pub fn refuse_table(f: Refusal) -> TableRead
+    ensures { λ r. ⌜ r ≡ tableRead (refused f) ⌝ }
+{
+    TableRead {
+        verdict: Verdict::Refused(f),
+        table: Table {
+            n: 0,
+            steps: blank_steps(),
+            m: 0,
+            edges: blank_edges(),
+        },
+    }
+}
+
+// What stands behind the edition.
+pub fn read_lists(bytes: &[u8], at: usize) -> TableRead
+    ensures { λ r. ⌜ r ≡ tableRead (outcome (listsAt (now (bytes .entry)) at)) ⌝ }
+{
+    let steps = steps_at(bytes, at);
+    let verdict = steps.verdict;
+    match verdict {
+        Verdict::Refused(f) => refuse_table(f),
+        Verdict::Accepted => {
+            let edges = edges_at(bytes, steps.n, steps.next);
+            let judged = edges.verdict;
+            match judged {
+                Verdict::Refused(f) => refuse_table(f),
+                Verdict::Accepted => {
+                    if edges.next != bytes.len() {
+                        return refuse_table(Refusal::Spare);
+                    }
+                    let step_list = steps.list;
+                    let edge_list = edges.list;
+                    TableRead {
+                        verdict: Verdict::Accepted,
+                        table: Table {
+                            n: steps.n,
+                            steps: step_list,
+                            m: edges.m,
+                            edges: edge_list,
+                        },
+                    }
+                }
+            }
+        }
+    }
+}
