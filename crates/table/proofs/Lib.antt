@@ -8,3 +8,5 @@ pub mod PlaceLaws
 pub mod FairLaws
 pub mod AnswerLaws
 pub mod StarredLaws
+pub mod RangeLaws
+pub mod CallLaws

@@ -22,23 +22,27 @@ ghost use Rattle.table.specs.Table.{stepAt, stepsAt, edgeAt, edgesAt};
 ghost use Rattle.table.specs.Calls.{noStep};
 ghost use Rattle.table.specs.Reads.{ListRead};
 
+pub type StepArray = [Step; MAX_STEPS];
+
+pub type EdgeArray = [Edge; MAX_EDGES];
+
 // The first n entries of the list and the place behind them, or the first fault, and then n is 0. The other entries are blank.
 pub struct Steps {
     pub verdict: Verdict,
     pub n: usize,
-    pub list: [Step; MAX_STEPS],
+    pub list: StepArray,
     pub next: usize,
 }
 
 pub struct Edges {
     pub verdict: Verdict,
     pub m: usize,
-    pub list: [Edge; MAX_EDGES],
+    pub list: EdgeArray,
     pub next: usize,
 }
 
 // An array of no steps.
-pub fn blank_steps() -> [Step; MAX_STEPS]
+pub fn blank_steps() -> StepArray
     ensures { λ r. ⌜ r ≡ replicate maxSteps noStep ⌝ }
 {
     [Step {
@@ -49,7 +53,7 @@ pub fn blank_steps() -> [Step; MAX_STEPS]
 }
 
 // An array of no edges.
-pub fn blank_edges() -> [Edge; MAX_EDGES]
+pub fn blank_edges() -> EdgeArray
     ensures { λ r. ⌜ r ≡ replicate maxEdges noEdge ⌝ }
 {
     [Edge {

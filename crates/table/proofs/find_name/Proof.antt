@@ -15,7 +15,7 @@ enum-told : tie.Need-enum-told
 enum-told c = search needs
 
 returns : tie.Need-returns
-returns c = missing _ _ (told _ _ (c .before .before .before .before .read-table .ensures) (c .before .before .enum-told .given .1)) _ (c .if1 .taken)
+returns c = missing _ _ (told _ _ (c .before .before .before .before .read-table .ensures) (c .before .before .enum-told .given .1)) _ (omega (arith, c .if1 .taken))
 
 mul-step : tie.Need-mul-step
 mul-step c = omega (arith, few _ _ (told _ _ (c .before .before .before .before .read-table .ensures) (c .before .before .enum-told .given .1)))
@@ -27,7 +27,7 @@ returns-2 : tie.Need-returns-2
 returns-2 c = name-refused _ (told-refused _ _ (c .before .before .before .read-table .ensures) (c .before .verdict .given .1)) _
 
 returns-3 : tie.Need-returns-3
-returns-3 c = found _ _ (told _ _ (c .before .before .before .before .before .read-table .ensures) (c .before .before .before .enum-told .given .1)) _ (c .before .if1 .left)
+returns-3 c = found _ _ (told _ _ (c .before .before .before .before .before .read-table .ensures) (c .before .before .before .enum-told .given .1)) _ (omega (arith, c .before .if1 .left))
 
 pub find-name-spec : {M : Type 1} → statement M
 find-name-spec =

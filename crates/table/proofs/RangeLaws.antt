@@ -1,0 +1,112 @@
+-- Which refusals the reader gives: those numbered 1 to 10, and for the name of a step 14 too.
+use mathlib.Core.Path.{_≡_, refl, subst}
+use mathlib.Core.Bool.{Bool, true, false, not, _&&_, cond}
+use mathlib.Core.List.{List}
+use mathlib.Core.Logic.{_⊎_, inl, inr}
+use Prim.Native.Nat.{ℕ, zero, suc, _-_, _≤_}
+use native.Mathlib.Omega.{arith}
+use lib.Dec.{leb, ltb, eqb}
+use lib.ListN.{length, getD}
+use Rattle.table.specs.declared.types.Refusal.{Refusal}
+use Rattle.table.specs.declared.types.Refusal.the-variants.{BadEdition, ManySteps, BadKind, OutOfRange, BadNameByte, ManyEdges, BadEnd, Spare, NoStep, Overlong}
+use Rattle.table.specs.Limits.{minNameByte, maxNameByte}
+use Rattle.table.specs.Refusal.{Outcome, done, refused, thenDo, demand, numberOf}
+use Rattle.table.specs.Number.{Read, got, fault, andThen, judge, byteAt, numberAt, numberIn, many, counted}
+use Rattle.table.specs.Table.{Contents, adjustAt, waitAt, kindAt, nameByteAt, nameAt, namedAt, stepAt, endAt, edgeBetween, edgeAt, stepsAt, edgesAt, listsAt, tableAt, outcome, read}
+use Rattle.table.specs.Calls.{Stretch, noStep, nameOf, nameCall}
+
+-- a fault of the reader's own
+abbrev Own : {A : Type 0} → Read A → Type 0
+Own (got a p) = Unit {0}
+Own (fault r) = numberOf r ≤ 10
+
+own-then : {A B : Type 0} (x : Read A) (f : A → ℕ → Read B) → Own x → ((a : A) (p : ℕ) → Own (f a p)) → Own (andThen x f)
+own-then (got a p) f h k = k a p
+own-then (fault r) f h k = h
+
+own-judge : {A : Type 0} (t : Bool) (r : Refusal) (x : Read A) → numberOf r ≤ 10 → Own x → Own (judge t r x)
+own-judge true r x h k = k
+own-judge false r x h k = h
+
+own-cond : {A : Type 0} (t : Bool) (x y : Read A) → Own x → Own y → Own (cond t x y)
+own-cond true x y h k = h
+own-cond false x y h k = k
+
+own-byte : (s : List ℕ) (at : ℕ) → Own (byteAt s at)
+unfolding byteAt
+own-byte s at = own-cond (ltb at (length s)) _ _ tt (omega arith)
+
+own-number : (s : List ℕ) (at : ℕ) → Own (numberAt s at)
+unfolding numberAt
+own-number s at =
+    own-then (byteAt s at) _ (own-byte s at) (λ a p. own-cond (ltb a 0x80) _ _ tt
+    (own-then (byteAt s p) _ (own-byte s p) (λ b q. own-cond (ltb b 0x80) _ _ tt
+    (own-then (byteAt s q) _ (own-byte s q) (λ c e. own-judge (ltb c 0x80) Overlong _ (omega arith) tt)))))
+
+own-limits : (low high : ℕ) (r : Refusal) (s : List ℕ) (at : ℕ) → numberOf r ≤ 10 → Own (numberIn low high r s at)
+unfolding numberIn
+own-limits low high r s at h = own-then (numberAt s at) _ (own-number s at) (λ v p. own-judge (leb low v && leb v high) r _ h tt)
+
+own-many : {A : Type 0} (item : ℕ → Read A) → ((at : ℕ) → Own (item at)) → (k at : ℕ) → Own (many item k at)
+unfolding many
+own-many item h zero at = tt
+own-many item h (suc k) at = own-then (item at) _ (h at) (λ a p. own-then (many item k p) _ (own-many item h k p) (λ l e. tt))
+
+own-step : (s : List ℕ) (at : ℕ) → Own (stepAt s at)
+unfolding stepAt kindAt adjustAt waitAt namedAt nameAt nameByteAt
+own-step s at = own-then (kindAt s at) _ kind (λ k p. own-then (numberIn _ _ OutOfRange s p) _ (own-limits _ _ OutOfRange s p (omega arith)) (λ l q. own-then (nameAt s l q) _ (name l q) (λ len e. tt)))
+  where
+    kind : Own (kindAt s at)
+    kind =
+        own-then (numberIn _ _ BadKind s at) _ (own-limits _ _ BadKind s at (omega arith)) (λ k p. own-cond (eqb k 0) _ _ tt
+        (own-cond (eqb k 1) _ _
+        (own-then (numberIn _ _ OutOfRange s p) _ (own-limits _ _ OutOfRange s p (omega arith)) (λ t q. tt))
+        (own-then (numberIn _ _ OutOfRange s p) _ (own-limits _ _ OutOfRange s p (omega arith)) (λ t q. tt))))
+
+    counts : (x : Read (List ℕ)) → Own x → Own (counted x)
+    counts (got l e) h = tt
+    counts (fault r) h = h
+
+    name : (l q : ℕ) → Own (nameAt s l q)
+    name l q = counts (many (nameByteAt s) l q) (own-many (nameByteAt s) (λ at. own-then (byteAt s at) _ (own-byte s at) (λ b p. own-judge (leb minNameByte b && leb b maxNameByte) BadNameByte _ (omega arith) tt)) l q)
+
+own-edge : (s : List ℕ) (n at : ℕ) → Own (edgeAt s n at)
+unfolding edgeAt endAt edgeBetween
+own-edge s n at =
+    own-then (endAt s n n at) _ (end n at) (λ f p. own-then (endAt s n f p) _ (end f p) (λ t q.
+    own-then (numberIn _ _ OutOfRange s q) _ (own-limits _ _ OutOfRange s q (omega arith)) (λ g e.
+    own-then (numberIn _ _ OutOfRange s e) _ (own-limits _ _ OutOfRange s e (omega arith)) (λ w o. tt))))
+  where
+    end : (but at : ℕ) → Own (endAt s n but at)
+    end but at = own-then (numberAt s at) _ (own-number s at) (λ v p. own-judge (ltb v n && not (eqb v but)) BadEnd _ (omega arith) tt)
+
+own-table : (s : List ℕ) → Own (tableAt s 0)
+unfolding tableAt listsAt stepsAt edgesAt
+own-table s =
+    own-then (numberIn _ _ BadEdition s 0) _ (own-limits _ _ BadEdition s 0 (omega arith)) (λ _ p.
+    own-then (stepsAt s p) _ (own-then (numberIn _ _ ManySteps s p) _ (own-limits _ _ ManySteps s p (omega arith)) (λ n q. own-many (stepAt s) (own-step s) n q)) (λ steps q.
+    own-then (edgesAt s (length steps) q) _ (own-then (numberIn _ _ ManyEdges s q) _ (own-limits _ _ ManyEdges s q (omega arith)) (λ m e. own-many (edgeAt s (length steps)) (own-edge s (length steps)) m e)) (λ edges e.
+    own-judge (eqb e (length s)) Spare _ (omega arith) tt)))
+
+-- the reader refuses by 1 to 10 only
+pub read-range : (s : List ℕ) {f : Refusal} → read s ≡ refused f → numberOf f ≤ 10
+unfolding read
+read-range s {f} e = go (tableAt s 0) (own-table s) e
+  where
+    go : (x : Read Contents) → Own x → outcome x ≡ refused f → numberOf f ≤ 10
+    go (got c p) h e = let z : _≡_ {A = ℕ} 0 1 = cc in absurd (omega arith)
+    go (fault r) h e = let k : r ≡ f = cc in subst (λ x. numberOf x ≤ 10) k h
+
+-- and the name call by these or 14
+pub name-range : (s : List ℕ) (i : ℕ) {f : Refusal} → nameCall s i ≡ refused f → (numberOf f ≤ 10) ⊎ (numberOf f ≡ 14)
+unfolding nameCall
+name-range s i {f} e = go (read s) refl e
+  where
+    test : (b : Bool) (x : Stretch) → demand b NoStep (done x) ≡ refused f → (numberOf f ≤ 10) ⊎ (numberOf f ≡ 14)
+    test true x e = let z : _≡_ {A = ℕ} 0 1 = cc in absurd (omega arith)
+    test false x e = let k : NoStep ≡ f = cc in inr (subst (λ x. numberOf x ≡ 14) k refl)
+
+    go : (o : Outcome Contents) → read s ≡ o
+        → thenDo o (λ t. demand (ltb i (length (t .steps))) NoStep (done (nameOf (getD (t .steps) i noStep)))) ≡ refused f → (numberOf f ≤ 10) ⊎ (numberOf f ≡ 14)
+    go (done t) r e = test (ltb i (length (t .steps))) _ e
+    go (refused g) r e = let k : g ≡ f = cc in inl (subst (λ x. numberOf x ≤ 10) k (read-range s r))
