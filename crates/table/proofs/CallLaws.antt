@@ -20,6 +20,23 @@ use Rattle.table.proofs.RangeLaws.{read-range}
 
 -- ---- refusals
 
+-- a refusal's number is 1 to 14
+pub number-some : (f : Refusal) → 1 ≤ numberOf f
+number-some Cut = omega arith
+number-some Overlong = omega arith
+number-some BadEdition = omega arith
+number-some ManySteps = omega arith
+number-some BadKind = omega arith
+number-some OutOfRange = omega arith
+number-some BadNameByte = omega arith
+number-some ManyEdges = omega arith
+number-some BadEnd = omega arith
+number-some Spare = omega arith
+number-some (Loop s) = omega arith
+number-some ManyPoints = omega arith
+number-some ShortBuffer = omega arith
+number-some NoStep = omega arith
+
 pub number-low : (f : Refusal) → numberOf f ≤ 14
 number-low Cut = omega arith
 number-low Overlong = omega arith

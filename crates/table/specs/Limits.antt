@@ -52,3 +52,7 @@ maxWeight = 255
 -- no accepted table is longer
 abbrev pub maxTable : ℕ
 maxTable = 3913
+
+-- steps and dummies of a chart (document 01: points)
+abbrev pub maxPoints : ℕ
+maxPoints = 1024

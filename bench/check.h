@@ -1,0 +1,11 @@
+// Is an answer right? Shown by a certificate, not by trust in either program.
+#ifndef CHECK_H
+#define CHECK_H
+#include "instance.h"
+
+// The total of rows: weight times length, over the edges.
+long total_of(const Instance *inst, const uint8_t *rows);
+
+// Null where rows are feasible, least and lowest; else what is wrong. `flow` and `total` are the peer's.
+const char *find_fault(const Instance *inst, const uint8_t *rows, const long *flow, long total);
+#endif

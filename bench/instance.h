@@ -1,0 +1,30 @@
+// Instances of the row problem, and where they come from.
+#ifndef INSTANCE_H
+#define INSTANCE_H
+#include <stddef.h>
+#include <stdint.h>
+#ifdef __cplusplus
+extern "C" {
+#endif
+
+enum { MAX_NODES = 64, MAX_EDGES = 192, MAX_NAME = 64 };
+
+typedef struct { unsigned from, to, gap, weight; } Edge;
+
+typedef struct {
+  char name[MAX_NAME];
+  size_t nodes, edges;
+  Edge edge[MAX_EDGES];
+} Instance;
+
+// shapes.c: instances by shape, size and seed; the same arguments always give the same instance.
+size_t shape_count(void);
+void make_shape(Instance *inst, size_t shape, size_t nodes, size_t edges, uint64_t seed);
+
+// stored.c: an instance from a text file: nodes and edges, then from, to, gap and weight of each edge. 0 where the file is not one.
+int read_instance(Instance *inst, const char *path);
+
+#ifdef __cplusplus
+}
+#endif
+#endif

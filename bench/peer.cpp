@@ -1,0 +1,44 @@
+// The dual of the row problem: a flow whose balance is that of the weights and whose sum of flow times gap is greatest.
+// LEMON's supply is outflow minus inflow, its cost is to be least, so cost = -gap; arcs have no upper bound.
+#include "peer.h"
+#include <lemon/network_simplex.h>
+#include <lemon/smart_graph.h>
+#include <ctime>
+#include <vector>
+
+using Graph = lemon::SmartDigraph;
+using Simplex = lemon::NetworkSimplex<Graph, int, int>;
+
+// Time of this thread on the processor: other processes that take it meanwhile do not count.
+double now_us() {
+  timespec t;
+  clock_gettime(CLOCK_THREAD_CPUTIME_ID, &t);
+  return t.tv_sec * 1e6 + t.tv_nsec / 1e3;
+}
+int solve_by_peer(const Instance *inst, PeerAnswer *answer) {
+  double start = now_us();
+  Graph graph;
+  Graph::ArcMap<int> cost(graph);
+  Graph::NodeMap<int> supply(graph);
+  std::vector<Graph::Node> node;
+  std::vector<Graph::Arc> arc;
+  for (size_t v = 0; v < inst->nodes; v++) node.push_back(graph.addNode());
+  for (size_t i = 0; i < inst->edges; i++) {
+    const Edge &e = inst->edge[i];
+    arc.push_back(graph.addArc(node[e.from], node[e.to]));
+    cost[arc[i]] = -static_cast<int>(e.gap);
+    supply[node[e.from]] += e.weight;
+    supply[node[e.to]] -= e.weight;
+  }
+  Simplex simplex(graph);
+  simplex.costMap(cost).supplyMap(supply);
+  double built = now_us();
+  bool optimal = simplex.run() == Simplex::OPTIMAL;
+  double done = now_us();
+  if (!optimal) return 0;
+  answer->build_us = built - start;
+  answer->run_us = done - built;
+  answer->total = -simplex.totalCost<long>();
+  for (size_t i = 0; i < inst->edges; i++) answer->flow[i] = simplex.flow(arc[i]);
+  return 1;
+}

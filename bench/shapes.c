@@ -1,0 +1,143 @@
+// Instances of many shapes. Edges run from a lower place to a higher one in a hidden order of the nodes, so none forms a loop;
+// at the end nodes are renumbered and edges are shuffled, so that no order of theirs helps.
+#include "instance.h"
+#include <stdio.h>
+
+static uint64_t state;
+
+static uint64_t next_random(void) {  // splitmix64
+  uint64_t z = state += 0x9E3779B97F4A7C15u;
+  z = (z ^ z >> 30) * 0xBF58476D1CE4E5B9u;
+  z = (z ^ z >> 27) * 0x94D049BB133111EBu;
+  return z ^ z >> 31;
+}
+static size_t below(size_t k) { return next_random() % k; }
+static size_t between(size_t lo, size_t hi) { return lo + below(hi - lo + 1); }
+
+// An edge between two places, where they differ and there is room for it.
+static void add(Instance *g, size_t room, size_t a, size_t b) {
+  if (a == b || g->edges == room) return;
+  g->edge[g->edges++] = (Edge){ a < b ? a : b, a < b ? b : a, between(1, 4), below(256) };
+}
+static void fill(Instance *g, size_t m) {
+  while (g->edges < m) add(g, m, below(g->nodes), below(g->nodes));
+}
+static void across(Instance *g, size_t m) {  // from the first half to the second
+  size_t half = g->nodes / 2;
+  while (g->edges < m) add(g, m, below(half), half + below(g->nodes - half));
+}
+
+static void sparse(Instance *g, size_t m) { fill(g, m * 2 / 3); }
+static void dense(Instance *g, size_t m) { g->nodes /= 2; fill(g, m); }
+static void chain(Instance *g, size_t m) {
+  for (size_t v = 0; v + 1 < g->nodes; v++) add(g, m, v, v + 1);
+  fill(g, m);
+}
+static void grid(Instance *g, size_t m) {
+  size_t w = 1;
+  while ((w + 1) * (w + 1) <= g->nodes) w++;
+  for (size_t v = 0; v < g->nodes; v++) {
+    int inner = v % w + 1 < w;
+    if (inner && v + 1 < g->nodes) add(g, m, v, v + 1);
+    if (v + w < g->nodes) add(g, m, v, v + w);
+    if (inner && v + w + 1 < g->nodes) add(g, m, v, v + w + 1);
+  }
+}
+static void layers(Instance *g, size_t m) {
+  size_t w = 8;
+  while (g->edges < m) {
+    size_t v = below(g->nodes - w);
+    add(g, m, v, (v / w + 1) * w + below(w));
+  }
+}
+static void bipartite(Instance *g, size_t m) { across(g, m); }
+static void stars(Instance *g, size_t m) {
+  while (g->edges < m) add(g, m, below(g->nodes / 8) * 8 + 4, below(g->nodes));
+}
+static void tree(Instance *g, size_t m) {  // and long edges from its first quarter to its last
+  size_t quarter = g->nodes / 4;
+  for (size_t v = 1; v < g->nodes; v++) add(g, m, below(v), v);
+  while (g->edges < m) add(g, m, below(quarter), g->nodes - 1 - below(quarter));
+}
+static void parallel(Instance *g, size_t m) {
+  while (g->edges < m) {
+    size_t a = below(g->nodes), b = below(g->nodes);
+    for (size_t k = between(2, 6); k > 0; k--) add(g, m, a, b);
+  }
+}
+static void parts(Instance *g, size_t m) {
+  size_t size = g->nodes / 4;
+  while (g->edges < m) {
+    size_t start = below(4) * size;
+    add(g, m, start + below(size), start + below(size));
+  }
+}
+static void heavytail(Instance *g, size_t m) {
+  fill(g, m);
+  for (size_t i = 0; i < g->edges; i++) g->edge[i].weight = below(16) ? below(3) : between(200, 255);
+}
+static void zeros(Instance *g, size_t m) {
+  fill(g, m);
+  for (size_t i = 0; i < g->edges; i++) if (below(4)) g->edge[i].weight = 0;
+}
+static void gaps4(Instance *g, size_t m) {
+  fill(g, m);
+  for (size_t i = 0; i < g->edges; i++) g->edge[i].gap = 4;
+}
+static void fan(Instance *g, size_t m) {
+  size_t half = g->nodes / 2;
+  for (size_t v = 1; v < g->nodes; v++) add(g, m, v <= half ? 0 : v - half, v);
+  across(g, m);
+}
+static void ladder(Instance *g, size_t m) {
+  size_t half = g->nodes / 2;
+  for (size_t v = 0; v + 1 < half; v++) {
+    add(g, m, v, v + 1);
+    add(g, m, half + v, half + v + 1);
+  }
+  across(g, m);
+}
+static void local(Instance *g, size_t m) {
+  while (g->edges < m) {
+    size_t v = below(g->nodes - 4);
+    add(g, m, v, v + between(1, 4));
+  }
+}
+
+static const struct { const char *name; void (*make)(Instance *, size_t); } shapes[] = {
+  { "sparse", sparse }, { "dense", dense }, { "chain", chain }, { "grid", grid }, { "layers", layers }, { "bipartite", bipartite },
+  { "stars", stars }, { "tree", tree }, { "parallel", parallel }, { "parts", parts }, { "heavytail", heavytail },
+  { "zeros", zeros }, { "gaps4", gaps4 }, { "fan", fan }, { "ladder", ladder }, { "local", local },
+};
+size_t shape_count(void) { return sizeof shapes / sizeof *shapes; }
+
+static void renumber(Instance *g) {
+  size_t number[MAX_NODES];
+  for (size_t v = 0; v < g->nodes; v++) number[v] = v;
+  for (size_t v = g->nodes; v-- > 1;) {
+    size_t k = below(v + 1), x = number[v];
+    number[v] = number[k];
+    number[k] = x;
+  }
+  for (size_t i = 0; i < g->edges; i++) {
+    g->edge[i].from = number[g->edge[i].from];
+    g->edge[i].to = number[g->edge[i].to];
+  }
+}
+static void shuffle(Instance *g) {
+  for (size_t i = g->edges; i-- > 1;) {
+    size_t k = below(i + 1);
+    Edge x = g->edge[i];
+    g->edge[i] = g->edge[k];
+    g->edge[k] = x;
+  }
+}
+void make_shape(Instance *g, size_t shape, size_t nodes, size_t edges, uint64_t seed) {
+  state = seed * 1000003 + shape * 7919 + nodes;
+  g->nodes = nodes;
+  g->edges = 0;
+  shapes[shape].make(g, edges);
+  renumber(g);
+  shuffle(g);
+  snprintf(g->name, MAX_NAME, "%s %d", shapes[shape].name, (int)seed);
+}

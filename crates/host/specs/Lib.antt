@@ -1,0 +1,2 @@
+-- What the calls for C hand back.
+pub mod Words

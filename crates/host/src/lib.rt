@@ -1,0 +1,93 @@
+// The calls for C. Slices are a pointer and a length; answers are packed into one word, as specs/Words.antt says.
+use layering::types::RowsAnswer;
+use table::types::CountsAnswer;
+use table::types::NameAnswer;
+use table::types::Refusal;
+ghost use mathlib.Core.Path.{_≡_};
+ghost use Prim.Native.Nat.{_≤_};
+ghost use Rattle.table.specs.Table.{read};
+ghost use Rattle.table.specs.Calls.{countsCall, nameCall};
+ghost use Rattle.layering.specs.Calls.{rowsCall, recordsOf, recordCall};
+ghost use Rattle.host.specs.Words.{countsWord, nameWord, doneWord, refusalWord, stepOf, Narrow, TableBest, RecordsBest};
+
+const SECOND: usize = 0x100;
+
+const THIRD: usize = 0x10000;
+
+// The steps and the edges of a table.
+#[no_mangle]
+pub extern "C" fn yuvatondro_counts(table: &[u8]) -> u64
+    ensures { λ r. ⌜ r ≡ countsWord (countsCall (now (table .entry))) ⌝ }
+{
+    match table::count_table(table) {
+        CountsAnswer::Refused(f) => refusal_word(f),
+        CountsAnswer::Counted(c) => (c.steps * SECOND + c.edges * THIRD) as u64,
+    }
+}
+
+// Where the name of a step stands in the table.
+#[no_mangle]
+pub extern "C" fn yuvatondro_name(table: &[u8], step: usize) -> u64
+    ensures { λ r. ⌜ r ≡ nameWord (nameCall (now (table .entry)) step) ⌝ }
+{
+    match table::find_name(table, step) {
+        NameAnswer::Refused(f) => refusal_word(f),
+        NameAnswer::At(start, len) => (len * SECOND + start * THIRD) as u64,
+    }
+}
+
+// The rows of a table to a lent buffer, one byte a step.
+#[no_mangle]
+pub extern "C" fn yuvatondro_rows(table: &[u8], rows: &mut [u8]) -> u64
+    ensures { λ r. ⌜ r ≡ doneWord (rowsCall (now (table .entry)) (now (rows .entry)) .answer) ⌝ }
+    ensures { λ _. ⌜ now (rows .exit) ≡ rowsCall (now (table .entry)) (now (rows .entry)) .rows ⌝ }
+    ensures { λ r. ⌜ TableBest (read (now (table .entry))) r (now (rows .exit)) ⌝ }
+{
+    match layering::find_rows(table, rows) {
+        RowsAnswer::Refused(f) => refusal_word(f),
+        RowsAnswer::Done => 0,
+    }
+}
+
+// The same for edges that are lent as numbers, four to an edge.
+#[no_mangle]
+pub extern "C" fn yuvatondro_records(steps: usize, records: &[usize], rows: &mut [u8]) -> u64
+    ensures { λ r. ⌜ r ≡ doneWord (recordCall steps (recordsOf (now (records .entry))) (now (rows .entry)) .answer) ⌝ }
+    ensures { λ _. ⌜ now (rows .exit) ≡ recordCall steps (recordsOf (now (records .entry))) (now (rows .entry)) .rows ⌝ }
+    ensures { λ r. ⌜ RecordsBest steps (recordsOf (now (records .entry))) r (now (rows .exit)) ⌝ }
+{
+    match layering::find_rows_of_records(steps, records, rows) {
+        RowsAnswer::Refused(f) => refusal_word(f),
+        RowsAnswer::Done => 0,
+    }
+}
+
+// A refusal as a word.
+fn refusal_word(f: Refusal) -> u64
+    requires { ⌜ Narrow f ⌝ }
+    ensures { λ r. ⌜ r ≡ refusalWord f ⌝ }
+{
+    (table::number_of(f) + loop_step(f) * SECOND) as u64
+}
+
+// The step that comes with a loop; 0 with any other refusal.
+fn loop_step(f: Refusal) -> usize
+    ensures { λ r. ⌜ r ≡ stepOf f ⌝ }
+{
+    match f {
+        Refusal::Loop(s) => s,
+        Refusal::Cut => 0,
+        Refusal::Overlong => 0,
+        Refusal::BadEdition => 0,
+        Refusal::ManySteps => 0,
+        Refusal::BadKind => 0,
+        Refusal::OutOfRange => 0,
+        Refusal::BadNameByte => 0,
+        Refusal::ManyEdges => 0,
+        Refusal::BadEnd => 0,
+        Refusal::Spare => 0,
+        Refusal::ManyPoints => 0,
+        Refusal::ShortBuffer => 0,
+        Refusal::NoStep => 0,
+    }
+}

@@ -1,0 +1,171 @@
+-- Fair edges in flat slices: the loop finder and the solver take them, and what these answer is the outcome.
+use mathlib.Core.Path.{_≡_, sym, ap, subst, _∙_}
+use mathlib.Core.List.{List, [], _∷_}
+use Prim.Native.Nat.{ℕ, suc, _*_, _-_, _≤_, _<_, suc-le-suc}
+use native.Mathlib.Nat.{le-trans, mul-le-mul-left, mul-le-mul-right, zero-lt-suc}
+use native.Mathlib.Decide.{decLt}
+use native.Mathlib.Omega.{arith}
+use lib.ListN.{length, take, replicate, length-replicate, List·getD-eq-default}
+use lib.Seq.{getD-take, length-take-le}
+use Rattle.graph.specs.declared.Edge.{Edge}
+use Rattle.graph.specs.Rows.{at, total, Best, Within}
+use Rattle.graph.specs.Search.{widest}
+use Rattle.graph.proofs.BoundLaws.{widest-le, best-bounded, best-is-rowsOf}
+use Rattle.network.specs.Limits.{gapLimit, weightLimit, rowLimit}
+use Rattle.network.specs.Network.{edgesOf, sum, Network, Bounded, Buffers}
+use Rattle.network.proofs.EdgesLaws.{length-edgesOf, edge-at}
+use Rattle.table.specs.declared.types.Refusal.{Refusal}
+use Rattle.table.specs.declared.types.Refusal.the-variants.{Loop}
+use Rattle.table.specs.declared.types.Verdict.{Verdict}
+use Rattle.table.specs.declared.types.Verdict.the-variants.{Accepted, Refused}
+use Rattle.table.specs.Limits.{maxSteps, maxEdges, maxGap, maxWeight}
+use Rattle.table.specs.Refusal.{Outcome, done, refused}
+use Rattle.table.specs.Fair.{FairEdge}
+use Rattle.layering.specs.declared.types.RowsFound.{RowsFound}
+use Rattle.layering.specs.declared.settle.Found.{Found}
+use Rattle.layering.specs.declared.settle.Found.the-variants.{At, Nothing}
+use Rattle.layering.specs.Flat.{Ends, Gaps}
+use Rattle.layering.specs.Loops.{FoundIs, LowRows}
+use Rattle.layering.specs.Calls.{rowsFound}
+use Rattle.layering.specs.Placed.{outcomeBy, topRow, FairEdges, Even, Solved, Placed, EdgesPlaced}
+use Rattle.layering.proofs.BoundLaws.{low-rows-at}
+use Rattle.layering.proofs.FoundLaws.{found-weighted, found-computes}
+
+-- ---- refused
+
+refused-accepted : {X : Type 0} {v : Verdict} {f : Refusal} → v ≡ Refused f → v ≡ Accepted → X
+refused-accepted e a = let z : _≡_ {A = ℕ} 0 1 = cc in absurd (omega arith)
+
+pub placed-refused : (n : ℕ) (edges : List Edge) (what : Outcome (List ℕ)) (f : RowsFound) {r : Refusal}
+    → f .verdict ≡ Refused r → length (f .rows) ≡ maxSteps → what ≡ refused r → Placed n edges what f
+placed-refused n edges what f e l w =
+    record {
+      says = ap (λ v. outcomeBy v (take n (f .rows))) e ∙ sym w;
+      best = λ a. refused-accepted e a;
+      summed = λ a. refused-accepted e a;
+      low = record { few = λ a. refused-accepted e a; long = l; low = λ a. refused-accepted e a };
+    }
+
+-- ---- the bound
+
+-- the rows of an answer are at most (n − 1) times the largest gap, for any n and any gaps; so at the limits none is above topRow
+pub best-low : (n : ℕ) (edges : List Edge) (rows : List ℕ) → FairEdges n edges → Best n edges (take n rows)
+    → (v : ℕ) → v < n → at rows v ≤ topRow
+best-low n edges rows fair best v h =
+    le-trans (subst (λ (x : ℕ). x ≤ (n - 1) * widest edges) (getD-take n rows v 0 h) (best-bounded n edges within (take n rows) best v h))
+    (le-trans (mul-le-mul-left (n - 1) (widest-le edges maxGap (λ i b. fair .each i b .gap-low))) (mul-le-mul-right maxGap few))
+  where
+    within : Within n edges
+    within i b = (fair .each i b .from-in, fair .each i b .to-in)
+
+    few : n - 1 ≤ maxSteps - 1
+    few = omega (arith, fair .few-steps)
+
+-- ---- scratch of the solver
+
+abbrev zeros : List ℕ
+zeros = replicate maxSteps 0
+
+-- a part of an array of zeros has as many entries as it says
+pub part-count : (n k : ℕ) → n ≤ k → length (take n (replicate {A = ℕ} k 0)) ≡ n
+part-count n k h = length-take-le n (replicate k 0) (subst (λ (x : ℕ). n ≤ x) (sym (length-replicate {A = ℕ} k 0)) h)
+
+pub scratch-fits : (m n : ℕ) → m ≤ maxEdges → n ≤ maxSteps
+    → Buffers m n zeros (take m (replicate maxEdges 0)) (take n zeros) (take n zeros) (take n zeros) (take n zeros) (take n zeros)
+scratch-fits m n few h =
+    record {
+      lengths = record { y-long = h; rank-long = part; parent-long = part; capacity-long = part };
+      flow-long = part-count m maxEdges few;
+      supply-long = part;
+      demand-long = part;
+    }
+  where
+    part : length (take n zeros) ≡ n
+    part = part-count n maxSteps h
+
+-- ---- flat slices of fair edges
+
+sum-low : (l : List ℕ) (k : ℕ) → ((i : ℕ) → i < length l → at l i ≤ k) → sum l ≤ length l * k
+unfolding sum
+sum-low [] k h = omega arith
+sum-low (x ∷ l) k h = omega (arith, h 0 (zero-lt-suc (length l)), sum-low l k (λ i b. h (suc i) (suc-le-suc b)))
+
+module _ (from to gap weight : List ℕ) (n : ℕ) (fair : FairEdges n (edgesOf from to gap weight)) (even : Even from to gap weight) where
+  abbrev edges : List Edge
+  edges = edgesOf from to gap weight
+
+  pub fair-edge : (i : ℕ) → i < length from → FairEdge n (record { from = at from i; to = at to i; gap = at gap i; weight = at weight i })
+  fair-edge i h = subst (FairEdge n) (edge-at from to gap weight i h) (fair .each i (omega (arith, length-edgesOf from to gap weight)))
+
+  pub fair-few : length from ≤ maxEdges
+  fair-few = omega (arith, length-edgesOf from to gap weight, fair .few-edges)
+
+  pub fair-within : Within n edges
+  fair-within i b = (fair .each i b .from-in, fair .each i b .to-in)
+
+  pub fair-ends : Ends n from to
+  fair-ends = record { to-long = even .to-long; from-in = λ i h. fair-edge i h .from-in; to-in = λ i h. fair-edge i h .to-in }
+
+  pub fair-gaps : Gaps (length from) gap
+  fair-gaps = record { long = even .gap-long; positive = λ i h. fair-edge i h .gap-some }
+
+  gap-narrow : (i : ℕ) → at gap i < gapLimit
+  gap-narrow i = go (decLt i (length from))
+    where
+      go : Dec (i < length from) → at gap i < gapLimit
+      go (yes h) = omega (arith, fair-edge i h .gap-low)
+      go (no h) = omega (arith, List·getD-eq-default gap 0 (past h))
+        where
+          past : (i < length from → ⊥) → length gap ≤ i
+          past h = omega (arith, even .gap-long)
+
+  weights-few : sum weight < weightLimit
+  weights-few =
+      omega (arith, sum-low weight maxWeight (λ i b. fair-edge i (omega (arith, even .weight-long)) .weight-low), even .weight-long, fair-few)
+
+  pub fair-network : Network from to gap weight n
+  fair-network =
+      record {
+        shape = record { to-long = even .to-long; gap-long = even .gap-long; from-in = λ i h. fair-edge i h .from-in; to-in = λ i h. fair-edge i h .to-in };
+        weight-long = even .weight-long;
+        weights = weights-few;
+        narrow = record { few = omega (arith, fair .few-steps); gaps = gap-narrow };
+      }
+
+  module _ (r : Found) (found : FoundIs n (edgesOf from to gap []) r) where
+    weighted : FoundIs n edges r
+    weighted = found-weighted n from to gap weight r fair-ends found
+
+    pub placed-loop : {s : ℕ} → r ≡ At s → rowsFound n edges ≡ refused (Loop s)
+    unfolding rowsFound
+    placed-loop {s} e = rw (found-computes n edges fair-within (At s) (subst (FoundIs n edges) e weighted))
+
+    module _ (e : r ≡ Nothing) where
+      free : FoundIs n edges Nothing
+      free = subst (FoundIs n edges) e weighted
+
+      low : LowRows n edges topRow
+      low = low-rows-at n edges fair-within (free .0) maxSteps maxGap (fair .few-steps) (λ i b. fair .each i b .gap-low)
+
+      pub fair-bounded : Bounded from to gap n rowLimit
+      fair-bounded =
+          record {
+            rows = low .rows;
+            kept = λ i h. rw (edge-at from to gap weight i h) at (low .kept i (omega (arith, length-edgesOf from to gap weight)));
+            low = λ v h. omega (arith, low .low v h);
+          }
+
+      pub placed-free : (rows : List ℕ) → Best n edges (take n rows) → rowsFound n edges ≡ done (take n rows)
+      unfolding rowsFound
+      placed-free rows best =
+          rw (found-computes n edges fair-within Nothing free) (ap done (best-is-rowsOf n edges (take n rows) fair-within best))
+
+      pub placed-done : (rows : List ℕ) (sum : ℕ) → Solved n edges rows → sum ≡ total edges (at (take n rows))
+          → EdgesPlaced n edges (record { verdict = Accepted; rows = rows; total = sum })
+      placed-done rows sum s e =
+          record {
+            says = sym (placed-free rows (s .best));
+            best = λ _. s .best;
+            summed = λ _. e;
+            low = record { few = λ _. fair .few-steps; long = s .long; low = λ _. best-low n edges rows fair (s .best) };
+          }

@@ -1,0 +1,15 @@
+-- The starred cases, computed from the definitions.
+use mathlib.Core.Path.{_≡_, refl}
+use mathlib.Core.List.{map}
+use Rattle.graph.specs.Rows.{total}
+use Rattle.graph.specs.Search.{run, keepsOne, keeps, sieve, extend, placements, lightest, firstLightest, widest, rowsOf}
+use Rattle.table.specs.Number.{byteAt, numberAt, numberIn, many}
+use Rattle.table.specs.Table.{adjustAt, waitAt, kindAt, nameByteAt, nameAt, namedAt, stepAt, endAt, edgeBetween, edgeAt, stepsAt, edgesAt, listsAt, tableAt, read}
+use Rattle.layering.specs.Loops.{mark, sweep, sweeps, reached, onLoop, firstFrom, lowestOnLoop}
+use Rattle.layering.specs.Calls.{rowsFound, rowsOfTable}
+use Rattle.layering.specs.Starred.{tell, starred}
+
+-- finding the rows of each case tells what the case says
+pub starred-told : map (λ c. tell (c .input)) starred ≡ map (λ c. c .told) starred
+unfolding total run keepsOne keeps sieve extend placements lightest firstLightest widest rowsOf byteAt numberAt numberIn many adjustAt waitAt kindAt nameByteAt nameAt namedAt stepAt endAt edgeBetween edgeAt stepsAt edgesAt listsAt tableAt read mark sweep sweeps reached onLoop firstFrom lowestOnLoop rowsFound rowsOfTable
+starred-told = refl

@@ -1,0 +1,106 @@
+-- What the functions behind the calls answer, and what they ask for.
+use mathlib.Core.Path.{_≡_}
+use mathlib.Core.List.{List, []}
+use Prim.Native.Nat.{ℕ, _*_, _-_, _≤_, _<_}
+use lib.ListN.{length, getD, take}
+use Rattle.graph.specs.declared.Edge.{Edge}
+use Rattle.graph.specs.Rows.{at, noEdge, total, Best}
+use Rattle.network.specs.Network.{edgesOf}
+use Rattle.table.specs.declared.types.Verdict.{Verdict}
+use Rattle.table.specs.declared.types.Verdict.the-variants.{Accepted, Refused}
+use Rattle.table.specs.Limits.{maxSteps, maxEdges, maxGap, maxWeight}
+use Rattle.table.specs.Refusal.{Outcome, done, refused}
+use Rattle.table.specs.Table.{Contents, read}
+use Rattle.table.specs.Fair.{FairEdge}
+use Rattle.layering.specs.declared.types.RowsAnswer.{RowsAnswer}
+use Rattle.layering.specs.declared.types.RowsFound.{RowsFound}
+use Rattle.layering.specs.Flat.{Ends}
+use Rattle.layering.specs.Calls.{rowsFound, rowsEnd, rowsAnswer, rowsOfTable, recordsJudged, rowsOfRecords}
+
+-- an outcome by its verdict
+abbrev pub outcomeBy : {A : Type 0} → Verdict → A → Outcome A
+outcomeBy Accepted a = done a
+outcomeBy (Refused r) a = refused r
+
+-- no row of an answer is higher, at the limits of steps and gaps
+abbrev pub topRow : ℕ
+topRow = (maxSteps - 1) * maxGap
+
+-- edges between n steps, all within the limits
+pub record FairEdges (n : ℕ) (edges : List Edge) : Type 0 where
+  pub few-steps : n ≤ maxSteps
+  pub few-edges : length edges ≤ maxEdges
+  pub each : (i : ℕ) → i < length edges → FairEdge n (getD edges i noEdge)
+
+-- flat slices of one length
+pub record Even (from to gap weight : List ℕ) : Type 0 where
+  pub to-long : length to ≡ length from
+  pub gap-long : length gap ≡ length from
+  pub weight-long : length weight ≡ length from
+
+-- the first m entries of four arrays write down the first m edges
+pub record Flattened (m : ℕ) (edges : List Edge) (from to gap weight : List ℕ) : Type 0 where
+  pub same : edgesOf (take m from) (take m to) (take m gap) (take m weight) ≡ take m edges
+  pub from-long : length from ≡ maxEdges
+  pub to-long : length to ≡ maxEdges
+  pub gap-long : length gap ≡ maxEdges
+  pub weight-long : length weight ≡ maxEdges
+
+-- what the total asks for: ends, weights and rows within the limits, and no edge points up
+pub record Summable (from to weight rows : List ℕ) : Type 0 where
+  pub ends : Ends (length rows) from to
+  pub weight-long : length weight ≡ length from
+  pub few : length from ≤ maxEdges
+  pub weights : (i : ℕ) → i < length from → at weight i ≤ maxWeight
+  pub kept : (i : ℕ) → i < length from → at rows (at from i) ≤ at rows (at to i)
+  pub low : (v : ℕ) → v < length rows → at rows v ≤ topRow
+
+-- best rows in the first n entries of an array
+pub record Solved (n : ℕ) (edges : List Edge) (rows : List ℕ) : Type 0 where
+  pub best : Best n edges (take n rows)
+  pub long : length rows ≡ maxSteps
+
+-- the outcome for n steps that an array of rows holds
+abbrev pub foundOf : ℕ → RowsFound → Outcome (List ℕ)
+foundOf n f = outcomeBy (f .verdict) (take n (f .rows))
+
+-- what can be handed out: rows in an array, none above the bound
+pub record Low (n : ℕ) (f : RowsFound) : Type 0 where
+  pub few : f .verdict ≡ Accepted → n ≤ maxSteps
+  pub long : length (f .rows) ≡ maxSteps
+  pub low : f .verdict ≡ Accepted → (v : ℕ) → v < n → at (f .rows) v ≤ topRow
+
+-- an outcome in an array of rows: where it is not refused, its first n entries are the best rows of the edges, and their total is there
+pub record Placed (n : ℕ) (edges : List Edge) (what : Outcome (List ℕ)) (f : RowsFound) : Type 0 where
+  pub says : foundOf n f ≡ what
+  pub best : f .verdict ≡ Accepted → Best n edges (take n (f .rows))
+  pub summed : f .verdict ≡ Accepted → f .total ≡ total edges (at (take n (f .rows)))
+  pub low : Low n f
+
+-- the rows of edges between n steps
+abbrev pub EdgesPlaced : ℕ → List Edge → RowsFound → Type 0
+EdgesPlaced n edges f = Placed n edges (rowsFound n edges) f
+
+-- an outcome handed out in a buffer
+pub record HandedOut (what : Outcome (List ℕ)) (old new : List ℕ) (r : RowsAnswer) : Type 0 where
+  pub answer : r ≡ rowsAnswer (rowsEnd what old .answer)
+  pub rows : new ≡ rowsEnd what old .rows
+
+-- edges that were judged one by one lie in an array
+pub record Taken (n : ℕ) (edges : List Edge) (verdict : Verdict) (list : List Edge) : Type 0 where
+  pub says : outcomeBy verdict tt ≡ recordsJudged n edges
+  pub there : verdict ≡ Accepted → take (length edges) list ≡ edges
+  pub long : length list ≡ maxEdges
+
+-- the steps and edges of a table; none where it is refused
+abbrev pub contentsOf : Outcome Contents → Contents
+contentsOf (done t) = t
+contentsOf (refused r) = record { steps = []; edges = [] }
+
+-- the rows of a table
+abbrev pub TablePlaced : List ℕ → RowsFound → Type 0
+TablePlaced bytes f = Placed (length (contentsOf (read bytes) .steps)) (contentsOf (read bytes) .edges) (rowsOfTable bytes) f
+
+-- the rows of edges that are lent
+abbrev pub RecordsPlaced : ℕ → List Edge → RowsFound → Type 0
+RecordsPlaced n edges f = Placed n edges (rowsOfRecords n edges) f

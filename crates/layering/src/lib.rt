@@ -1,0 +1,74 @@
+// The row finder: the best rows of a table's edges, or of edges that are lent, in a buffer that is lent.
+//
+// Every call takes any input, ends, and has no condition. Its contract puts its answer and its buffer equal to what a definition of
+// specs/Calls.antt makes of the input, and says of the rows of an answer that they are the best.
+mod edges;
+mod loops;
+mod place;
+mod records;
+mod settle;
+mod store;
+mod total;
+pub mod types;
+
+use crate::place::place_edges;
+use crate::place::refuse_rows;
+use crate::records::place_records;
+use crate::store::hand_out;
+use crate::types::Row;
+use crate::types::RowsAnswer;
+use crate::types::TableRows;
+use table::read_table;
+use table::types::Verdict;
+ghost use mathlib.Core.Path.{_≡_};
+ghost use Rattle.table.specs.Table.{read};
+ghost use Rattle.table.specs.Calls.{tableRead};
+ghost use Rattle.layering.specs.Calls.{rowsCall, rowsAnswer, recordsOf, recordCall, TableBest, RecordsBest};
+ghost use Rattle.layering.specs.Placed.{TablePlaced};
+
+// A table's rows to the first entries of a buffer, one a step. Refuses as the reader does, then by a loop with its lowest step, then a
+// buffer with fewer entries than steps.
+pub fn find_rows(bytes: &[u8], rows: &mut [Row]) -> RowsAnswer
+    ensures { λ r. ⌜ r ≡ rowsAnswer (rowsCall (now (bytes .entry)) (now (rows .entry)) .answer) ⌝ }
+    ensures { λ _. ⌜ now (rows .exit) ≡ rowsCall (now (bytes .entry)) (now (rows .entry)) .rows ⌝ }
+    ensures { λ r. ⌜ TableBest (read (now (bytes .entry))) r (now (rows .exit)) ⌝ }
+{
+    let placed = place_table(bytes);
+    let found = placed.found;
+    hand_out(found, placed.table.n, rows)
+}
+
+// The same for n steps and edges that are lent as a list of numbers, four to an edge: from, to, gap, weight; fewer than four left over
+// are no edge. Refuses too many steps, too many edges, each edge in turn by its ends, then by its gap and weight, then a loop, then a
+// short buffer.
+pub fn find_rows_of_records(n: usize, records: &[usize], rows: &mut [Row]) -> RowsAnswer
+    ensures { λ r. ⌜ r ≡ rowsAnswer (recordCall n (recordsOf (now (records .entry))) (now (rows .entry)) .answer) ⌝ }
+    ensures { λ _. ⌜ now (rows .exit) ≡ recordCall n (recordsOf (now (records .entry))) (now (rows .entry)) .rows ⌝ }
+    ensures { λ r. ⌜ RecordsBest n (recordsOf (now (records .entry))) r (now (rows .exit)) ⌝ }
+{
+    let found = place_records(n, records);
+    hand_out(found, n, rows)
+}
+
+// The table that the bytes write down, with its rows and their total: what a layer above builds on.
+pub fn place_table(bytes: &[u8]) -> TableRows
+    ensures { λ r. ⌜ r .table ≡ tableRead (read (now (bytes .entry))) .table ⌝ }
+    ensures { λ r. ⌜ TablePlaced (now (bytes .entry)) (r .found) ⌝ }
+{
+    let t = read_table(bytes);
+    let verdict = t.verdict;
+    let table = t.table;
+    match verdict {
+        Verdict::Refused(f) => TableRows {
+            table: table,
+            found: refuse_rows(f),
+        },
+        Verdict::Accepted => {
+            let edges = table.edges;
+            TableRows {
+                table: table,
+                found: place_edges(edges, table.m, table.n),
+            }
+        }
+    }
+}

@@ -1,0 +1,27 @@
+// What the row finder gives: rows, their total, or why there are none.
+use table::limits::MAX_STEPS;
+use table::types::Refusal;
+use table::types::Table;
+use table::types::Verdict;
+
+// A row in a buffer that is lent.
+pub type Row = u8;
+
+// Rows are in the buffer, or why they are not.
+pub enum RowsAnswer {
+    Done,
+    Refused(Refusal),
+}
+
+// The rows, one a step, and their total, or why there are none.
+pub struct RowsFound {
+    pub verdict: Verdict,
+    pub rows: [usize; MAX_STEPS],
+    pub total: usize,
+}
+
+// A table and its rows. A refused table is blank.
+pub struct TableRows {
+    pub table: Table,
+    pub found: RowsFound,
+}

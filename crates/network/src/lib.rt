@@ -1,0 +1,72 @@
+// Best rows of a network of edges with gaps and weights, and a flow that certifies them: a primal-dual method with supply and demand by node.
+mod arcs;
+mod drain;
+mod exit;
+mod fill;
+mod load;
+mod push;
+mod relax;
+mod tree;
+
+use crate::arcs::link_lists;
+use crate::drain::drain_nodes;
+use crate::fill::clear_first;
+use crate::load::load_edges;
+use crate::relax::relax_edges;
+ghost use lib.ListN.{length};
+ghost use Rattle.network.specs.Certificate.{Certified};
+ghost use Rattle.network.specs.Limits.{rowLimit};
+ghost use Rattle.network.specs.Network.{Network, Bounded, Buffers};
+
+// The best rows of the n nodes, in the first n entries of y, and a flow that certifies them. Some feasible rows must exist.
+pub fn solve(
+    from: &[usize],
+    to: &[usize],
+    gap: &[usize],
+    weight: &[usize],
+    n: usize,
+    y: &mut [usize],
+    flow: &mut [usize],
+    rank: &mut [usize],
+    parent: &mut [usize],
+    capacity: &mut [usize],
+    supply: &mut [usize],
+    demand: &mut [usize],
+    out_head: &mut [usize],
+    out_next: &mut [usize],
+    in_head: &mut [usize],
+    in_next: &mut [usize],
+    queue: &mut [usize],
+)
+    requires { ⌜ Network (now from) (now to) (now gap) (now weight) n ⌝ }
+    requires { ⌜ Bounded (now from) (now to) (now gap) n rowLimit ⌝ }
+    requires { ⌜ Buffers (length (now from)) n (now y) (now flow) (now rank) (now parent) (now capacity) (now supply) (now demand) ⌝ }
+    ensures { λ _. ⌜ Certified (now (from .entry)) (now (to .entry)) (now (gap .entry)) (now (weight .entry)) n (now (y .entry)) (now (y .exit)) (now (flow .exit)) ⌝ }
+{
+    clear_first(flow, from.len());
+    clear_first(supply, n);
+    clear_first(demand, n);
+    link_lists(from, to, out_head, out_next, in_head, in_next);
+    relax_edges(from, to, gap, flow, n, y);
+    load_edges(from, to, gap, weight, n, y, flow, supply, demand);
+    drain_nodes(
+        from,
+        to,
+        gap,
+        weight,
+        n,
+        y,
+        flow,
+        rank,
+        parent,
+        capacity,
+        supply,
+        demand,
+        out_head,
+        out_next,
+        in_head,
+        in_next,
+        queue,
+    );
+    relax_edges(from, to, gap, flow, n, y);
+}

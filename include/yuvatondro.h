@@ -1,0 +1,67 @@
+/* Yuvatondro: the calls for C.
+ *
+ * Link libhost.a (rt staticlib host). A table is the bytes of docs/FORMAT.md. A slice is a pointer and a length in entries; where the
+ * length is 0 the pointer is not followed. Buffers overlap neither each other nor the table or the records. Every call takes any bytes
+ * and any lengths, ends, and keeps no state.
+ *
+ * An answer is one word. Its low byte is 0, or the number of the refusal, and then no buffer was changed. With refusal 11 the lowest
+ * step that lies on a loop stands in the byte above. Entries of a buffer behind those that a call fills keep their content.
+ */
+#ifndef YUVATONDRO_H
+#define YUVATONDRO_H
+
+#include <stddef.h>
+#include <stdint.h>
+
+#ifdef __cplusplus
+extern "C" {
+#endif
+
+/* Why a call was turned down, in the order in which the conditions are judged: 1 to 10 from the bytes of the table from left to right,
+ * then 14, or 11, 12, 13. */
+enum {
+  YUVATONDRO_DONE = 0,
+  YUVATONDRO_CUT = 1,           /* the bytes end before the last due number or name is complete */
+  YUVATONDRO_OVERLONG = 2,      /* the third byte of a number has its high bit set */
+  YUVATONDRO_BAD_EDITION = 3,   /* an edition other than 1 */
+  YUVATONDRO_MANY_STEPS = 4,    /* more than YUVATONDRO_MAX_STEPS steps */
+  YUVATONDRO_BAD_KIND = 5,      /* a kind above 2 */
+  YUVATONDRO_OUT_OF_RANGE = 6,  /* tolerance, minutes, name length, gap or weight */
+  YUVATONDRO_BAD_NAME_BYTE = 7, /* a byte of a name outside 21 to 7E hexadecimal */
+  YUVATONDRO_MANY_EDGES = 8,    /* more than YUVATONDRO_MAX_EDGES edges */
+  YUVATONDRO_BAD_END = 9,       /* an end of an edge is no step, or both are the same */
+  YUVATONDRO_SPARE = 10,        /* bytes follow the last edge */
+  YUVATONDRO_LOOP = 11,         /* the edges form a loop: yuvatondro_loop_step tells the step */
+  YUVATONDRO_MANY_POINTS = 12,  /* more than YUVATONDRO_MAX_POINTS points */
+  YUVATONDRO_SHORT_BUFFER = 13, /* a buffer has fewer entries than the call is to fill */
+  YUVATONDRO_NO_STEP = 14       /* the table has no step of that number */
+};
+
+enum { YUVATONDRO_MAX_STEPS = 64, YUVATONDRO_MAX_EDGES = 192, YUVATONDRO_MAX_POINTS = 1024 };
+
+/* The refusal of any answer, and the step that comes with refusal 11. */
+static inline unsigned yuvatondro_refusal(uint64_t answer) { return (unsigned)(answer & 0xFF); }
+static inline unsigned yuvatondro_loop_step(uint64_t answer) { return (unsigned)(answer >> 8 & 0xFF); }
+
+/* The steps and edges of a table. Refuses by 1 to 10. */
+uint64_t yuvatondro_counts(const uint8_t *table, size_t table_len);
+static inline unsigned yuvatondro_steps(uint64_t counts) { return (unsigned)(counts >> 8 & 0xFF); }
+static inline unsigned yuvatondro_edges(uint64_t counts) { return (unsigned)(counts >> 16); }
+
+/* Where the name of a step stands in the table: its start and its length, which is 1 to 16. Refuses by 1 to 10, then 14. */
+uint64_t yuvatondro_name(const uint8_t *table, size_t table_len, size_t step);
+static inline size_t yuvatondro_name_length(uint64_t name) { return (size_t)(name >> 8 & 0xFF); }
+static inline size_t yuvatondro_name_start(uint64_t name) { return (size_t)(name >> 16); }
+
+/* The rows of a table, one byte a step: feasible, of least weighted total among all feasible rows, and among those the lowest at every
+ * step. Answers 0. Refuses by 1 to 11, then 13. */
+uint64_t yuvatondro_rows(const uint8_t *table, size_t table_len, uint8_t *rows, size_t rows_len);
+
+/* The same for edges without a table: `numbers` entries of `records`, four to an edge (from, to, gap, weight); fewer than four left
+ * over are no edge. Refuses by 4, 8, then each edge in turn by 9 and 6, then 11, 13. */
+uint64_t yuvatondro_records(size_t steps, const size_t *records, size_t numbers, uint8_t *rows, size_t rows_len);
+
+#ifdef __cplusplus
+}
+#endif
+#endif

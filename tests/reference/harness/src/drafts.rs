@@ -1,0 +1,101 @@
+//! From shapes to tables: gaps, weights, numbering, kinds and names.
+
+use reference::random::Random;
+use reference::records::Record;
+use reference::table::{Edge, Kind};
+use reference::writer::Draft;
+
+use crate::shapes::Shape;
+
+/// How gaps are drawn.
+#[derive(Clone, Copy)]
+pub enum Gaps {
+    One,
+    Four,
+    Mixed,
+    MostlyOne,
+}
+
+/// How weights are drawn.
+#[derive(Clone, Copy)]
+pub enum Weights {
+    One,
+    Zero,
+    Few,
+    Any,
+    Most,
+    MostlyZero,
+}
+
+pub fn any_gaps(random: &mut Random) -> Gaps {
+    random.pick(&[Gaps::One, Gaps::One, Gaps::Four, Gaps::Mixed, Gaps::MostlyOne])
+}
+
+pub fn any_weights(random: &mut Random) -> Weights {
+    random.pick(&[Weights::One, Weights::Few, Weights::Any, Weights::Any, Weights::Most, Weights::MostlyZero])
+}
+
+fn gap(random: &mut Random, gaps: Gaps) -> u32 {
+    match gaps {
+        Gaps::One => 1,
+        Gaps::Four => 4,
+        Gaps::Mixed => random.between(1, 4) as u32,
+        Gaps::MostlyOne => random.pick(&[1, 1, 1, 1, 2, 3, 4]),
+    }
+}
+
+fn weight(random: &mut Random, weights: Weights) -> u32 {
+    match weights {
+        Weights::One => 1,
+        Weights::Zero => 0,
+        Weights::Few => random.below(4) as u32,
+        Weights::Any => random.below(256) as u32,
+        Weights::Most => 255,
+        Weights::MostlyZero => random.pick(&[0, 0, 0, 0, 1, 7, 255]),
+    }
+}
+
+/// Steps keep the shape's numbers, or take them backward or shuffled; edges likewise.
+pub fn dress(random: &mut Random, shape: &Shape, gaps: Gaps, weights: Weights) -> Vec<Edge> {
+    let mut number: Vec<usize> = (0..shape.steps).collect();
+    match random.below(4) {
+        0 => {}
+        1 => number.reverse(),
+        _ => random.shuffle(&mut number),
+    }
+    let mut edges: Vec<Edge> = shape
+        .ends
+        .iter()
+        .map(|&(low, high)| Edge {
+            from: number[low],
+            to: number[high],
+            gap: gap(random, gaps),
+            weight: weight(random, weights),
+        })
+        .collect();
+    if random.one_in(2) {
+        random.shuffle(&mut edges);
+    }
+    edges
+}
+
+pub fn draft(random: &mut Random, steps: usize, edges: Vec<Edge>) -> Draft {
+    Draft { steps: (0..steps).map(|_| (any_kind(random), any_name(random))).collect(), edges }
+}
+
+pub fn any_kind(random: &mut Random) -> Kind {
+    match random.below(3) {
+        0 => Kind::Check,
+        1 => Kind::Adjustment { tolerance: random.pick(&[0, 1, 50, 127, 128, 999, 9998, 9999]) },
+        _ => Kind::Wait { minutes: random.pick(&[1, 2, 30, 127, 128, 239, 240]) },
+    }
+}
+
+pub fn any_name(random: &mut Random) -> Vec<u8> {
+    let len = random.pick(&[1, 1, 2, 3, 4, 8, 15, 16]);
+    (0..len).map(|_| random.pick(b"!AZaz09=|^~\x22\x7e\x21")).collect()
+}
+
+pub fn records_of(edges: &[Edge]) -> Vec<Record> {
+    edges.iter().map(|edge| [edge.from, edge.to, edge.gap as usize, edge.weight as usize]).collect()
+}

@@ -1,0 +1,77 @@
+//! The families of cases. A family is run group by group; seed, family and group name a case.
+
+mod buffers;
+mod bytes;
+mod graphs;
+mod limits;
+mod loops;
+mod points;
+mod records;
+mod spoiled;
+
+use reference::random::Random;
+
+use crate::judge::Judge;
+
+pub struct Family {
+    pub name: &'static str,
+    /// Groups in the fixed selection.
+    pub groups: usize,
+    /// Whether groups beyond these bring new cases.
+    pub endless: bool,
+    pub run: fn(&mut Judge, &mut Random, usize),
+}
+
+const fn endless(name: &'static str, groups: usize, run: fn(&mut Judge, &mut Random, usize)) -> Family {
+    Family { name, groups, endless: true, run }
+}
+
+const fn fixed(name: &'static str, groups: usize, run: fn(&mut Judge, &mut Random, usize)) -> Family {
+    Family { name, groups, endless: false, run }
+}
+
+/// Cheap families first, so that a wrong library is soon found out.
+pub const FAMILIES: &[Family] = &[
+    fixed("stated cases", 1, limits::stated_cases),
+    fixed("limits", 1, limits::field_limits),
+    fixed("all tiny graphs", graphs::TINY_GRAPHS, graphs::all_tiny),
+    fixed("all short tables", bytes::SHORT_TABLES, bytes::all_short),
+    endless("tiny", 6000, graphs::tiny),
+    endless("loops", 2000, loops::any_loop),
+    endless("loops after tails", 1000, loops::after_tail),
+    endless("records", 3000, records::valid),
+    endless("spoiled records", 3000, records::spoiled),
+    endless("record limits", 40, records::limits),
+    endless("record loops", 1000, records::loops),
+    endless("spare bytes", 500, bytes::spare),
+    endless("long forms", 1500, bytes::long_forms),
+    endless("long input", 60, bytes::long_input),
+    endless("two spoiled fields", 3000, spoiled::two_fields),
+    endless("mutated", 6000, bytes::mutated),
+    endless("random bytes", 6000, bytes::random_bytes),
+    endless("point limit", 600, points::near_limit),
+    endless("buffers", 400, buffers::all_lengths),
+    endless("sparse", 1500, graphs::sparse),
+    endless("dense", 1000, graphs::dense),
+    endless("chains", 700, graphs::chain),
+    endless("grids", 700, graphs::grid),
+    endless("layered", 1000, graphs::layered),
+    endless("wide", 1000, graphs::wide),
+    endless("stars", 500, graphs::star),
+    endless("bipartite", 700, graphs::bipartite),
+    endless("parallel", 1000, graphs::parallel),
+    endless("trees", 700, graphs::tree),
+    endless("zero weights", 1000, graphs::zero_weights),
+    endless("parts", 1500, graphs::parts),
+    endless("long edges", 1000, graphs::long),
+    endless("single rows", 200, graphs::single_row),
+    endless("full", 150, graphs::full),
+    endless("cut", 300, bytes::cut_everywhere),
+    endless("spoiled fields", 60, spoiled::each_field),
+];
+
+/// A generator of its own for each group.
+pub fn group_random(seed: u64, family: usize, group: usize) -> Random {
+    let mut mixer = Random::new(seed ^ (family as u64) << 48 ^ (group as u64) << 8);
+    Random::new(mixer.next())
+}

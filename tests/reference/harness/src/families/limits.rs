@@ -1,0 +1,112 @@
+//! The stated short cases, and each limit met exactly and passed by one.
+
+use reference::random::Random;
+use reference::table::{Edge, Kind};
+use reference::writer::{bytes_of, fields_of, short, write_table, Draft, Field};
+
+use crate::judge::Judge;
+
+const SAMPLE: &[u8] = b"\x01\x04\x02\x1e\x04warm\x00\x04lock\x00\x05sweep\x01\x32\x05level\x04\
+\x00\x01\x01\x01\x01\x02\x02\x03\x00\x03\x01\x01\x03\x02\x01\x05";
+
+pub fn stated_cases(judge: &mut Judge, _: &mut Random, _: usize) {
+    let cases: [&[u8]; 16] = [
+        SAMPLE,
+        &[1, 0, 0],
+        &[],
+        &[2],
+        &[0x81, 0, 0, 0],
+        &[0x80, 0x80, 0x80],
+        &[1, 0x40],
+        &[1, 0x41],
+        &[1, 0, 0, 0],
+        &[1, 1, 0, 1, 0x41, 1, 0, 0],
+        &[1, 2, 0, 1, 0x41, 0, 1, 0x42, 2, 0, 1, 1, 1, 1, 0, 1, 1],
+        &[0x83, 0x80, 0x80],
+        &[0x80, 0x80],
+        &[0x83, 0x80, 0],
+        &[1, 0, 1, 0],
+        &[1, 1, 0, 1, 0x41, 1, 1],
+    ];
+    for bytes in cases {
+        judge.judge_table(bytes);
+        judge.compare_listing(bytes);
+        judge.judge_buffers(bytes, &[-100, -1, 0, 1, 100]);
+    }
+}
+
+fn chain(steps: usize, kind: Kind, name: &[u8], edges: usize, gap: u32, weight: u32) -> Draft {
+    let links = steps.max(2) - 1;
+    let edge = |from| Edge { from, to: from + 1, gap, weight };
+    Draft { steps: vec![(kind, name.to_vec()); steps], edges: (0..edges).map(|index| edge(index % links)).collect() }
+}
+
+/// Every limit met and passed, each table in short and long forms; then all small values of the first fields.
+pub fn field_limits(judge: &mut Judge, _: &mut Random, _: usize) {
+    for draft in [count_limits(), range_limits(), name_limits()].concat() {
+        judge_forms(judge, &draft);
+    }
+    for place in 0..3 {
+        for value in 0..300 {
+            let mut fields = fields_of(&chain(2, Kind::Check, b"k", 1, 1, 1));
+            fields[place] = short(value);
+            judge.judge_table(&bytes_of(&fields));
+        }
+    }
+}
+
+fn count_limits() -> Vec<Draft> {
+    let mut drafts = Vec::new();
+    for steps in [0, 1, 2, 63, 64, 65, 66, 127, 128, 255, 256] {
+        drafts.push(chain(steps, Kind::Check, b"s", 0, 1, 1));
+        drafts.push(chain(steps, Kind::Check, b"s", steps.saturating_sub(1).min(192), 4, 255));
+    }
+    for edges in [1, 191, 192, 193, 194, 255, 256, 257] {
+        drafts.push(chain(64, Kind::Check, b"e", edges, 1, 255));
+        drafts.push(chain(2, Kind::Check, b"e", edges, 4, 0));
+    }
+    drafts
+}
+
+fn range_limits() -> Vec<Draft> {
+    let mut drafts = Vec::new();
+    for gap in [0, 1, 4, 5, 128, 257, 260] {
+        drafts.push(chain(5, Kind::Check, b"g", 4, gap, 1));
+    }
+    for weight in [0, 127, 128, 254, 255, 256, 257, 16_384, 65_536, 65_537] {
+        drafts.push(chain(5, Kind::Check, b"w", 4, 1, weight));
+    }
+    for tolerance in [0, 127, 128, 9_998, 9_999, 10_000, 16_383, 16_384, 65_536, 2_097_151] {
+        drafts.push(chain(2, Kind::Adjustment { tolerance }, b"a", 1, 1, 1));
+    }
+    for minutes in [0, 1, 127, 128, 239, 240, 241, 256, 257, 65_537, 2_097_151] {
+        drafts.push(chain(2, Kind::Wait { minutes }, b"w", 1, 1, 1));
+    }
+    drafts
+}
+
+fn name_limits() -> Vec<Draft> {
+    let mut drafts = Vec::new();
+    for len in [0, 1, 15, 16, 17, 32, 128] {
+        drafts.push(chain(3, Kind::Check, &vec![b'n'; len], 2, 1, 1));
+    }
+    for byte in 0..=255 {
+        drafts.push(chain(2, Kind::Check, &[byte], 1, 1, 1));
+        drafts.push(chain(2, Kind::Check, &[b'x', byte, b'y'], 1, 1, 1));
+    }
+    drafts
+}
+
+fn judge_forms(judge: &mut Judge, draft: &Draft) {
+    judge.judge_table(&write_table(draft));
+    judge.judge_buffers(&write_table(draft), &[-1, 0, 1]);
+    for wide in 2..=4 {
+        let mut fields = fields_of(draft);
+        for field in &mut fields {
+            if let Field::Number { width, .. } = field {
+                *width = wide;
+            }
+        }
+        judge.judge_table(&bytes_of(&fields));
+    }
+}

@@ -1,0 +1,70 @@
+//! Charts of very nearly 1,024 points, for the most part of exactly 1,024 or 1,025.
+
+use reference::points::MAX_POINTS;
+use reference::random::Random;
+use reference::table::Edge;
+use reference::writer::write_table;
+
+use crate::drafts::draft;
+use crate::judge::Judge;
+use crate::shapes::{EDGES, STEPS};
+
+/// Along a chain every edge has the length that the chain forces, so points can be counted out.
+pub fn near_limit(judge: &mut Judge, random: &mut Random, group: usize) {
+    let target =
+        random.pick(&[MAX_POINTS, MAX_POINTS, MAX_POINTS + 1, MAX_POINTS + 1, MAX_POINTS - 1, MAX_POINTS + 30]);
+    let (steps, edges) = loop {
+        if let Some(found) = try_chart(random, target) {
+            break found;
+        }
+    };
+    let bytes = write_table(&draft(random, steps, edges));
+    judge.judge_table(&bytes);
+    if group % 16 == 0 {
+        judge.judge_buffers(&bytes, &[-10_000, -1, 0, 1]);
+    }
+}
+
+fn try_chart(random: &mut Random, target: usize) -> Option<(usize, Vec<Edge>)> {
+    let steps = random.between(8, STEPS);
+    let links = random.between(6, steps - 1);
+    let most = random.pick(&[1, 1, 2, 4]);
+    let mut row = vec![0];
+    let mut ends = Vec::new();
+    for link in 0..links {
+        row.push(row[link] + random.between(1, most));
+        ends.push((link, link + 1));
+    }
+    let points = |low: usize, high: usize, row: &[usize]| row[high] - row[low] - 1;
+    let used: usize = ends.iter().map(|&(low, high)| points(low, high, &row)).sum();
+    let mut left = target.checked_sub(steps + used)?;
+    let span = random.between(3, links);
+    while left > 0 && ends.len() < EDGES {
+        let low = random.below(links + 1 - span.min(links));
+        let high = low + random.between(1, span);
+        let last = (0..=links).flat_map(|low| (low + 1..=links).map(move |high| (low, high)));
+        let (low, high) = last
+            .filter(|_| left < 2 * span * most)
+            .find(|&(low, high)| points(low, high, &row) == left)
+            .unwrap_or((low, high));
+        left = left.checked_sub(points(low, high, &row))?;
+        ends.push((low, high));
+    }
+    (left == 0).then(|| (steps, number_edges(random, steps, &row, &ends)))
+}
+
+/// Chain edges keep the chain's gap; any gap that fits will do for the others.
+fn number_edges(random: &mut Random, steps: usize, row: &[usize], ends: &[(usize, usize)]) -> Vec<Edge> {
+    let mut number: Vec<usize> = (0..steps).collect();
+    random.shuffle(&mut number);
+    let mut edges = Vec::new();
+    for &(low, high) in ends {
+        let length = row[high] - row[low];
+        let gap = if high == low + 1 { length } else { random.between(1, length.min(4)) } as u32;
+        edges.push(Edge { from: number[low], to: number[high], gap, weight: random.below(256) as u32 });
+    }
+    if random.one_in(2) {
+        random.shuffle(&mut edges);
+    }
+    edges
+}

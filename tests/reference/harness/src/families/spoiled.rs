@@ -1,0 +1,73 @@
+//! Good tables with one or two fields spoiled: every refusal at every field, and which of two wins.
+
+use reference::random::Random;
+use reference::table::Kind;
+use reference::writer::{bytes_of, fields_of, Draft, Field};
+
+use crate::drafts::{any_kind, any_name, any_weights, dress, Gaps};
+use crate::judge::Judge;
+use crate::shapes;
+
+/// The limits of all fields and their neighbours.
+const VALUES: [u32; 29] = [
+    0, 1, 2, 3, 4, 5, 15, 16, 17, 63, 64, 65, 127, 128, 191, 192, 193, 239, 240, 241, 254, 255, 256, 257, 9_998, 9_999,
+    10_000, 16_384, 2_097_151,
+];
+const BYTES: [u8; 8] = [0, 0x20, 0x21, 0x3d, 0x7e, 0x7f, 0x80, 0xff];
+
+fn small_fields(random: &mut Random) -> Vec<Field> {
+    let shape = shapes::tiny(random);
+    let weights = any_weights(random);
+    let edges = dress(random, &shape, Gaps::Mixed, weights);
+    let mut steps: Vec<(Kind, Vec<u8>)> = (0..shape.steps).map(|_| (any_kind(random), any_name(random))).collect();
+    for (_, name) in &mut steps {
+        name.truncate(3);
+    }
+    fields_of(&Draft { steps, edges })
+}
+
+/// Each field, each value at its edges, each width, the high bit left set, and the bytes cut inside it.
+pub fn each_field(judge: &mut Judge, random: &mut Random, _: usize) {
+    let good = small_fields(random);
+    for at in 0..good.len() {
+        let mut fields = good.clone();
+        match good[at] {
+            Field::Byte(_) => {
+                for byte in BYTES {
+                    fields[at] = Field::Byte(byte);
+                    judge.judge_table(&bytes_of(&fields));
+                }
+            }
+            Field::Number { value, .. } => {
+                for width in 1..=5 {
+                    fields[at] = Field::Number { value, width };
+                    judge.judge_table(&bytes_of(&fields));
+                }
+                for value in VALUES {
+                    fields[at] = Field::Number { value, width: random.between(1, 3) as u32 };
+                    judge.judge_table(&bytes_of(&fields));
+                }
+            }
+        }
+        judge.judge_table(&bytes_of(&fields[..at]));
+        judge.judge_table(&[bytes_of(&good[..at]), vec![0x80]].concat());
+        judge.judge_table(&[bytes_of(&good[..at]), vec![0xff, 0x80]].concat());
+        judge.judge_table(&[bytes_of(&good[..at]), vec![0x81, 0x80, 0x80]].concat());
+    }
+}
+
+pub fn two_fields(judge: &mut Judge, random: &mut Random, _: usize) {
+    let mut fields = small_fields(random);
+    for _ in 0..2 {
+        let at = random.below(fields.len());
+        fields[at] = match fields[at] {
+            Field::Byte(_) => Field::Byte(random.pick(&BYTES)),
+            Field::Number { .. } => Field::Number { value: random.pick(&VALUES), width: random.between(1, 4) as u32 },
+        };
+    }
+    let mut bytes = bytes_of(&fields);
+    if random.one_in(3) {
+        bytes.truncate(random.below(bytes.len()));
+    }
+    judge.judge_table(&bytes);
+}

@@ -1,0 +1,84 @@
+//! The library under test. Calls that it does not export are never reached: see `exported`.
+
+mod linked {
+    extern "C" {
+        #[cfg(host_counts)]
+        pub fn yuvatondro_counts(table: *const u8, table_len: usize) -> u64;
+        #[cfg(host_name)]
+        pub fn yuvatondro_name(table: *const u8, table_len: usize, step: usize) -> u64;
+        #[cfg(host_rows)]
+        pub fn yuvatondro_rows(table: *const u8, table_len: usize, rows: *mut u8, rows_len: usize) -> u64;
+        #[cfg(host_records)]
+        pub fn yuvatondro_records(
+            steps: usize,
+            records: *const usize,
+            numbers: usize,
+            rows: *mut u8,
+            rows_len: usize,
+        ) -> u64;
+        #[cfg(host_chart)]
+        pub fn yuvatondro_chart(
+            table: *const u8,
+            table_len: usize,
+            rows: *mut u8,
+            rows_len: usize,
+            order: *mut u16,
+            order_len: usize,
+        ) -> u64;
+    }
+}
+
+pub const CALLS: [&str; 5] = ["counts", "name", "rows", "records", "chart"];
+pub const COUNTS: usize = 0;
+pub const NAME: usize = 1;
+pub const ROWS: usize = 2;
+pub const RECORDS: usize = 3;
+pub const CHART: usize = 4;
+
+pub fn exported() -> [bool; 5] {
+    [cfg!(host_counts), cfg!(host_name), cfg!(host_rows), cfg!(host_records), cfg!(host_chart)]
+}
+
+/// A lent stretch as C hands it over.
+pub type Bytes = (*const u8, usize);
+pub type BytesMut = (*mut u8, usize);
+
+#[allow(unused_variables)]
+pub fn counts(table: Bytes) -> u64 {
+    #[cfg(host_counts)]
+    return unsafe { linked::yuvatondro_counts(table.0, table.1) };
+    #[cfg(not(host_counts))]
+    unreachable!()
+}
+
+#[allow(unused_variables)]
+pub fn name(table: Bytes, step: usize) -> u64 {
+    #[cfg(host_name)]
+    return unsafe { linked::yuvatondro_name(table.0, table.1, step) };
+    #[cfg(not(host_name))]
+    unreachable!()
+}
+
+#[allow(unused_variables)]
+pub fn rows(table: Bytes, rows: BytesMut) -> u64 {
+    #[cfg(host_rows)]
+    return unsafe { linked::yuvatondro_rows(table.0, table.1, rows.0, rows.1) };
+    #[cfg(not(host_rows))]
+    unreachable!()
+}
+
+#[allow(unused_variables)]
+pub fn records(steps: usize, numbers: (*const usize, usize), rows: BytesMut) -> u64 {
+    #[cfg(host_records)]
+    return unsafe { linked::yuvatondro_records(steps, numbers.0, numbers.1, rows.0, rows.1) };
+    #[cfg(not(host_records))]
+    unreachable!()
+}
+
+#[allow(unused_variables)]
+pub fn chart(table: Bytes, rows: BytesMut, order: (*mut u16, usize)) -> u64 {
+    #[cfg(host_chart)]
+    return unsafe { linked::yuvatondro_chart(table.0, table.1, rows.0, rows.1, order.0, order.1) };
+    #[cfg(not(host_chart))]
+    unreachable!()
+}

@@ -1,0 +1,284 @@
+//! Puts one input to the library and to the reference and compares answers and buffers.
+
+use reference::calls::{counts, hand_out_chart, hand_out_rows, name, pack};
+use reference::chart::{draw_chart, Chart};
+use reference::random::Random;
+use reference::records::{rows_of_edges, rows_of_records, Record};
+use reference::refusal::Refusal;
+use reference::table::read_table;
+
+use crate::host::{self, CALLS, CHART, COUNTS, NAME, RECORDS, ROWS};
+use crate::lent::Arena;
+use crate::program::Program;
+use crate::tally::Tally;
+use crate::watch;
+
+/// Differences printed in full.
+const SHOWN: u64 = 10;
+
+pub struct Judge {
+    pub tally: Tally,
+    wanted: [bool; 5],
+    stop_at_first: bool,
+    program: Option<Program>,
+    /// Family and group at hand.
+    place: (&'static str, usize),
+    tables: u64,
+    random: Random,
+    table: Arena,
+    numbers: Arena,
+    rows: Arena,
+    order: Arena,
+}
+
+impl Judge {
+    pub fn new(wanted: [bool; 5], stop_at_first: bool, program: Option<Program>) -> Judge {
+        Judge {
+            tally: Tally::new(),
+            wanted,
+            stop_at_first,
+            program,
+            place: ("", 0),
+            tables: 0,
+            random: Random::new(0),
+            table: Arena::new(16),
+            numbers: Arena::new(32),
+            rows: Arena::new(2),
+            order: Arena::new(4),
+        }
+    }
+
+    /// Lends empty stretches as null pointers, as a C program may.
+    pub fn lend_null_when_empty(&mut self) {
+        for arena in [&mut self.table, &mut self.numbers, &mut self.rows, &mut self.order] {
+            arena.null_when_empty = true;
+        }
+    }
+
+    /// The next groups draw buffer lengths and contents from this seed.
+    pub fn enter_group(&mut self, family: &'static str, group: usize, random: Random) {
+        (self.place, self.random) = ((family, group), random);
+    }
+
+    /// All wanted calls on a table, with buffers exact and one other choice.
+    pub fn judge_table(&mut self, bytes: &[u8]) {
+        let table = read_table(bytes);
+        if self.wanted[COUNTS] {
+            let expected = pack(counts(&table));
+            self.run_on_table(COUNTS, bytes, expected, None, None);
+        }
+        if self.wanted[NAME] {
+            let steps = table.as_ref().map_or(0, |table| table.steps.len());
+            for step in [0, steps.saturating_sub(1), steps, self.odd_step(steps)] {
+                let expected = pack(name(&table, step));
+                self.run_name(bytes, step, expected);
+            }
+        }
+        if self.wanted[ROWS] {
+            let rows = table.as_ref().map_err(|&refusal| refusal);
+            let rows = rows.and_then(|table| rows_of_edges(table.steps.len(), &table.edges));
+            let needed = rows.as_ref().map_or(0, Vec::len);
+            for len in [needed, self.other_len(needed, rows.is_err())] {
+                self.compare_rows(bytes, &rows, len);
+            }
+        }
+        if self.wanted[CHART] {
+            let chart = table.as_ref().map_err(|&refusal| refusal).and_then(draw_chart);
+            self.judge_chart(bytes, &chart);
+        }
+        self.sample_listing(bytes);
+    }
+
+    fn judge_chart(&mut self, bytes: &[u8], chart: &Result<Chart, Refusal>) {
+        if let Ok(chart) = chart {
+            self.tally.note_chart(chart.best_pass);
+        }
+        let (steps, points) = chart.as_ref().map_or((0, 0), |chart| (chart.rows.len(), chart.point_count()));
+        let other_rows = self.other_len(steps, chart.is_err());
+        let other_order = self.other_len(points, chart.is_err());
+        let choice = self.random.pick(&[(steps, other_order), (other_rows, points), (other_rows, other_order)]);
+        for (rows_len, order_len) in [(steps, points), choice] {
+            self.compare_chart(bytes, chart, rows_len, order_len);
+        }
+    }
+
+    /// Rows and chart with every pair of these buffer lengths, as differences from what is needed.
+    pub fn judge_buffers(&mut self, bytes: &[u8], offsets: &[isize]) {
+        let table = read_table(bytes);
+        let chart = table.as_ref().map_err(|&refusal| refusal).and_then(draw_chart);
+        let rows = table.as_ref().map_err(|&refusal| refusal);
+        let rows = rows.and_then(|table| rows_of_edges(table.steps.len(), &table.edges));
+        let points = chart.as_ref().map_or(0, Chart::point_count);
+        let needed = rows.as_ref().map_or(0, Vec::len);
+        for &more_rows in offsets {
+            let rows_len = needed.saturating_add_signed(more_rows);
+            if self.wanted[ROWS] {
+                self.compare_rows(bytes, &rows, rows_len);
+            }
+            if !self.wanted[CHART] {
+                continue;
+            }
+            for &more_order in offsets {
+                self.compare_chart(bytes, &chart, rows_len, points.saturating_add_signed(more_order));
+            }
+        }
+    }
+
+    pub fn judge_records(&mut self, steps: usize, records: &[Record]) {
+        if !self.wanted[RECORDS] {
+            return;
+        }
+        let rows = rows_of_records(steps, records);
+        let needed = rows.as_ref().map_or(0, Vec::len);
+        for len in [needed, self.other_len(needed, rows.is_err())] {
+            self.compare_records(steps, records, &rows, len);
+        }
+    }
+
+    fn odd_step(&mut self, steps: usize) -> usize {
+        let inside = self.random.below(steps.max(1));
+        self.random.pick(&[inside, inside, inside + 256, inside + 65536, inside + (1 << 32), 64, usize::MAX])
+    }
+
+    /// Some length other than the one needed, for the most part near it.
+    fn other_len(&mut self, needed: usize, refused: bool) -> usize {
+        let any = self.random.below(300);
+        if refused {
+            return any;
+        }
+        self.random.pick(&[
+            needed.saturating_sub(1),
+            needed.saturating_sub(1),
+            needed + 1,
+            needed + 1,
+            0,
+            needed + 17,
+            any,
+        ])
+    }
+
+    fn filling(&mut self, len: usize) -> Vec<u8> {
+        (0..len).map(|_| self.random.next() as u8).collect()
+    }
+
+    fn compare_rows(&mut self, bytes: &[u8], rows: &Result<Vec<usize>, Refusal>, len: usize) {
+        let filling = self.filling(len);
+        let mut due = filling.clone();
+        let expected = pack(hand_out_rows(rows, &mut due));
+        self.run_on_table(ROWS, bytes, expected, Some((filling, due)), None);
+    }
+
+    fn compare_chart(&mut self, bytes: &[u8], chart: &Result<Chart, Refusal>, rows_len: usize, order_len: usize) {
+        let (rows, order) = (self.filling(rows_len), self.filling(2 * order_len));
+        let mut due_rows = rows.clone();
+        let mut entries: Vec<u16> = order.chunks(2).map(|pair| u16::from_ne_bytes([pair[0], pair[1]])).collect();
+        let expected = pack(hand_out_chart(chart, &mut due_rows, &mut entries));
+        let due_order = entries.iter().flat_map(|entry| entry.to_ne_bytes()).collect();
+        self.run_on_table(CHART, bytes, expected, Some((rows, due_rows)), Some((order, due_order)));
+    }
+
+    fn run_name(&mut self, bytes: &[u8], step: usize, expected: u64) {
+        let flush = self.random.one_in(2);
+        let table = self.table.place(bytes, flush, 1);
+        let (answer, took) = watch::timed(NAME, || host::name((table, bytes.len()), step));
+        self.tally.note_call(NAME, expected, took, self.place);
+        let fault = self.input_fault(bytes).or_else(|| answer_fault(expected, answer));
+        self.settle(NAME, fault, || format!("step {step}, table {}", hex(bytes)));
+    }
+
+    /// A call on a table; each output buffer with its filling and what it has to hold afterwards.
+    fn run_on_table(&mut self, call: usize, bytes: &[u8], expected: u64, rows: Lending, order: Lending) {
+        let flush = self.random.one_in(2);
+        let table = (self.table.place(bytes, flush, 1) as *const u8, bytes.len());
+        let (rows_filling, rows_due) = rows.unwrap_or_default();
+        let (order_filling, order_due) = order.unwrap_or_default();
+        let lent_rows = (self.rows.place(&rows_filling, flush, 1), rows_filling.len());
+        let lent_order = (self.order.place(&order_filling, flush, 2) as *mut u16, order_filling.len() / 2);
+        let (answer, took) = watch::timed(call, || match call {
+            COUNTS => host::counts(table),
+            ROWS => host::rows(table, lent_rows),
+            _ => host::chart(table, lent_rows, lent_order),
+        });
+        self.tally.note_call(call, expected, took, self.place);
+        let fault = self
+            .input_fault(bytes)
+            .or_else(|| answer_fault(expected, answer))
+            .or_else(|| buffer_fault("rows", &mut self.rows, &rows_due))
+            .or_else(|| buffer_fault("order", &mut self.order, &order_due));
+        let lens = (lent_rows.1, lent_order.1);
+        self.settle(call, fault, || format!("buffers {lens:?}, table {}", hex(bytes)));
+    }
+
+    fn compare_records(&mut self, steps: usize, records: &[Record], rows: &Result<Vec<usize>, Refusal>, len: usize) {
+        let filling = self.filling(len);
+        let mut due = filling.clone();
+        let expected = pack(hand_out_rows(rows, &mut due));
+        let numbers: Vec<u8> = records.iter().flatten().flat_map(|number| number.to_ne_bytes()).collect();
+        let flush = self.random.one_in(2);
+        let lent_numbers = (self.numbers.place(&numbers, flush, 8) as *const usize, records.len() * 4);
+        let lent_rows = (self.rows.place(&filling, flush, 1), len);
+        let (answer, took) = watch::timed(RECORDS, || host::records(steps, lent_numbers, lent_rows));
+        self.tally.note_call(RECORDS, expected, took, self.place);
+        let fault = buffer_fault("records", &mut self.numbers, &numbers)
+            .or_else(|| answer_fault(expected, answer))
+            .or_else(|| buffer_fault("rows", &mut self.rows, &due));
+        self.settle(RECORDS, fault, || format!("steps {steps}, buffer {len}, records {records:?}"));
+    }
+
+    /// One table in so many goes to the program too.
+    fn sample_listing(&mut self, bytes: &[u8]) {
+        self.tables += 1;
+        if self.program.as_ref().is_some_and(|program| self.tables % program.every == 0) {
+            self.compare_listing(bytes);
+        }
+    }
+
+    /// Puts a table to the program, if there is one.
+    pub fn compare_listing(&mut self, bytes: &[u8]) {
+        let Some(program) = &self.program else { return };
+        let mut fault = None;
+        watch::timed(CHART, || {
+            fault = program.compare(bytes);
+            0
+        });
+        self.tally.listings += 1;
+        self.settle(CHART, fault, || format!("the program, table {}", hex(bytes)));
+    }
+
+    fn input_fault(&mut self, bytes: &[u8]) -> Option<String> {
+        buffer_fault("table", &mut self.table, bytes)
+    }
+
+    fn settle(&mut self, call: usize, fault: Option<String>, input: impl FnOnce() -> String) {
+        self.tally.cases += 1;
+        let Some(fault) = fault else { return };
+        self.tally.differences += 1;
+        if self.tally.differences <= SHOWN {
+            let (call, (family, group)) = (CALLS[call], self.place);
+            println!("difference: {fault}, call {call}, family {family}, group {group}: {}", input());
+        }
+        if self.stop_at_first {
+            std::process::exit(1);
+        }
+    }
+}
+
+/// What a buffer holds before the call and what it has to hold after it.
+type Lending = Option<(Vec<u8>, Vec<u8>)>;
+
+fn answer_fault(expected: u64, answer: u64) -> Option<String> {
+    (answer != expected).then(|| format!("answer {answer:#x} for {expected:#x}"))
+}
+
+fn buffer_fault(what: &str, arena: &mut Arena, due: &[u8]) -> Option<String> {
+    if !arena.guards_hold() {
+        return Some(format!("bytes beside {what} written"));
+    }
+    let content = arena.content();
+    let at = (0..due.len()).find(|&at| content[at] != due[at])?;
+    Some(format!("{what} byte {at} is {} for {}", content[at], due[at]))
+}
+
+fn hex(bytes: &[u8]) -> String {
+    bytes.iter().map(|byte| format!("{byte:02X}")).collect::<Vec<_>>().join(" ")
+}

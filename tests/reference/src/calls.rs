@@ -1,0 +1,71 @@
+//! The five calls as a C caller meets them: packed answers, lent buffers.
+
+use crate::chart::{draw_chart, Chart};
+use crate::records::{rows_of_edges, rows_of_records, Record};
+use crate::refusal::Refusal;
+use crate::table::{read_table, Table};
+
+/// The refusal's number in the low byte; a loop's step in the byte above.
+pub fn pack_refusal(refusal: Refusal) -> u64 {
+    let step = if let Refusal::Loop(step) = refusal { step as u64 } else { 0 };
+    u64::from(refusal.number()) | step << 8
+}
+
+pub fn pack(answer: Result<u64, Refusal>) -> u64 {
+    answer.unwrap_or_else(pack_refusal)
+}
+
+pub fn counts(table: &Result<Table, Refusal>) -> Result<u64, Refusal> {
+    let table = table.as_ref().map_err(|&refusal| refusal)?;
+    Ok((table.steps.len() as u64) << 8 | (table.edges.len() as u64) << 16)
+}
+
+pub fn name(table: &Result<Table, Refusal>, step: usize) -> Result<u64, Refusal> {
+    let table = table.as_ref().map_err(|&refusal| refusal)?;
+    let step = table.steps.get(step).ok_or(Refusal::NoSuchStep)?;
+    Ok((step.name_len as u64) << 8 | (step.name_start as u64) << 16)
+}
+
+pub fn rows(bytes: &[u8], buffer: &mut [u8]) -> u64 {
+    let rows = read_table(bytes).and_then(|table| rows_of_edges(table.steps.len(), &table.edges));
+    pack(hand_out_rows(&rows, buffer))
+}
+
+pub fn records(steps: usize, records: &[Record], buffer: &mut [u8]) -> u64 {
+    pack(hand_out_rows(&rows_of_records(steps, records), buffer))
+}
+
+pub fn chart(bytes: &[u8], rows: &mut [u8], order: &mut [u16]) -> u64 {
+    let chart = read_table(bytes).and_then(|table| draw_chart(&table));
+    pack(hand_out_chart(&chart, rows, order))
+}
+
+/// A buffer is looked at only when nothing else is wrong, and written only when nothing is.
+pub fn hand_out_rows(rows: &Result<Vec<usize>, Refusal>, buffer: &mut [u8]) -> Result<u64, Refusal> {
+    let rows = rows.as_ref().map_err(|&refusal| refusal)?;
+    if buffer.len() < rows.len() {
+        return Err(Refusal::ShortBuffer);
+    }
+    for (entry, &row) in buffer.iter_mut().zip(rows) {
+        *entry = row as u8;
+    }
+    Ok(0)
+}
+
+pub fn hand_out_chart(chart: &Result<Chart, Refusal>, rows: &mut [u8], order: &mut [u16]) -> Result<u64, Refusal> {
+    let chart = chart.as_ref().map_err(|&refusal| refusal)?;
+    if rows.len() < chart.rows.len() || order.len() < chart.point_count() {
+        return Err(Refusal::ShortBuffer);
+    }
+    for (entry, &row) in rows.iter_mut().zip(&chart.rows) {
+        *entry = row as u8;
+    }
+    for (entry, point) in order.iter_mut().zip(chart.listed_order()) {
+        *entry = point;
+    }
+    Ok(pack_chart(chart.point_count(), chart.total, chart.crossings))
+}
+
+pub fn pack_chart(points: usize, total: u64, crossings: usize) -> u64 {
+    (points as u64) << 8 | total << 19 | (crossings as u64) << 44
+}

@@ -1,0 +1,16 @@
+//! An independent reference for the layered-drawing engine: plain and slow where that is clearer.
+
+pub mod calls;
+pub mod certificate;
+pub mod chart;
+pub mod flow;
+pub mod listing;
+pub mod loops;
+pub mod order;
+pub mod points;
+pub mod random;
+pub mod records;
+pub mod refusal;
+pub mod rows;
+pub mod table;
+pub mod writer;

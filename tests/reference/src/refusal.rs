@@ -1,0 +1,41 @@
+//! Why a call is turned down.
+
+#[derive(Clone, Copy, PartialEq, Eq, Debug)]
+pub enum Refusal {
+    CutShort,
+    LongNumber,
+    Edition,
+    TooManySteps,
+    UnknownKind,
+    OutOfRange,
+    NameByte,
+    TooManyEdges,
+    BadEnd,
+    SpareBytes,
+    /// Carries the lowest step that lies on a loop.
+    Loop(usize),
+    TooManyPoints,
+    ShortBuffer,
+    NoSuchStep,
+}
+
+impl Refusal {
+    pub fn number(self) -> u8 {
+        match self {
+            Refusal::CutShort => 1,
+            Refusal::LongNumber => 2,
+            Refusal::Edition => 3,
+            Refusal::TooManySteps => 4,
+            Refusal::UnknownKind => 5,
+            Refusal::OutOfRange => 6,
+            Refusal::NameByte => 7,
+            Refusal::TooManyEdges => 8,
+            Refusal::BadEnd => 9,
+            Refusal::SpareBytes => 10,
+            Refusal::Loop(_) => 11,
+            Refusal::TooManyPoints => 12,
+            Refusal::ShortBuffer => 13,
+            Refusal::NoSuchStep => 14,
+        }
+    }
+}

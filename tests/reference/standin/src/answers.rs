@@ -1,0 +1,105 @@
+//! The calls, over the stand-in's layers, with the wrong variants of buffers and packing.
+
+use reference::calls;
+use reference::chart::Chart;
+use reference::points::{count_points, MAX_POINTS};
+use reference::records::Record;
+use reference::refusal::Refusal;
+
+use crate::fault::on;
+use crate::wrong_chart::draw;
+use crate::wrong_rows;
+use crate::wrong_table::read;
+
+pub fn counts(table: &[u8]) -> u64 {
+    if on("table-changed") && !table.is_empty() {
+        unsafe { (table.as_ptr() as *mut u8).write_volatile(table[0] ^ 1) };
+    }
+    calls::pack(calls::counts(&read(table)))
+}
+
+pub fn name(table: &[u8], step: usize) -> u64 {
+    let read = read(table);
+    if on("name-14-first") && step >= 64 {
+        return 14;
+    }
+    let step = if on("name-step-cut") { step & 0xff } else { step };
+    let answer = calls::name(&read, step);
+    calls::pack(if on("name-off") { answer.map(|packed| packed + (1 << 16)) } else { answer })
+}
+
+pub fn rows(table: &[u8], buffer: &mut [u8]) -> u64 {
+    let rows = read(table).and_then(|table| {
+        if on("short-first") && buffer.len() < table.steps.len() {
+            return Err(Refusal::ShortBuffer);
+        }
+        let rows = wrong_rows::rows(table.steps.len(), &table.edges)?;
+        if on("rows-judge-12") && count_points(&table.edges, &rows) > MAX_POINTS {
+            return Err(Refusal::TooManyPoints);
+        }
+        Ok(rows)
+    });
+    calls::pack(hand_out_rows(&rows, buffer))
+}
+
+pub fn records(steps: usize, records: &[Record], buffer: &mut [u8]) -> u64 {
+    calls::pack(hand_out_rows(&wrong_rows::records(steps, records), buffer))
+}
+
+fn hand_out_rows(rows: &Result<Vec<usize>, Refusal>, buffer: &mut [u8]) -> Result<u64, Refusal> {
+    if on("never-written") {
+        return calls::hand_out_rows(rows, &mut buffer.to_vec());
+    }
+    let answer = calls::hand_out_rows(rows, buffer)?;
+    let used = rows.as_ref().map_or(0, Vec::len);
+    if on("rest-cleared") {
+        buffer[used..].fill(0);
+    }
+    if on("one-past") {
+        unsafe { buffer.as_mut_ptr().add(used).write_volatile(0) };
+    }
+    if on("before-buffer") {
+        unsafe { buffer.as_mut_ptr().sub(1).write_volatile(0) };
+    }
+    Ok(answer)
+}
+
+pub fn chart(table: &[u8], rows: &mut [u8], order: &mut [u16]) -> u64 {
+    let chart = read(table).and_then(|table| {
+        let drawn = draw(&table);
+        let few = rows.len() < table.steps.len();
+        match drawn {
+            Err(Refusal::Loop(_)) if on("short-first") && few => Err(Refusal::ShortBuffer),
+            Err(Refusal::TooManyPoints) if on("short-before-12") && few => Err(Refusal::ShortBuffer),
+            drawn => drawn,
+        }
+    });
+    calls::pack(hand_out_chart(chart, rows, order))
+}
+
+fn hand_out_chart(chart: Result<Chart, Refusal>, rows: &mut [u8], order: &mut [u16]) -> Result<u64, Refusal> {
+    if on("never-written") {
+        return calls::hand_out_chart(&chart, &mut rows.to_vec(), &mut order.to_vec());
+    }
+    let Ok(drawn) = &chart else { return calls::hand_out_chart(&chart, rows, order) };
+    let points = drawn.point_count();
+    if on("written-when-refused") && rows.len() >= drawn.rows.len() {
+        let _ = calls::hand_out_rows(&Ok(drawn.rows.clone()), rows);
+    }
+    if on("order-unchecked") && order.len() < points {
+        let mut whole = vec![0; points];
+        let answer = calls::hand_out_chart(&chart, rows, &mut whole)?;
+        order.copy_from_slice(&whole[..order.len()]);
+        return Ok(answer);
+    }
+    let answer = calls::hand_out_chart(&chart, rows, order)?;
+    if on("rest-cleared") {
+        order[points..].fill(0);
+    }
+    if on("order-inverse") {
+        for (entry, position) in order.iter_mut().zip(reference::order::positions(&drawn.order)) {
+            *entry = position as u16;
+        }
+    }
+    Ok(answer)
+}

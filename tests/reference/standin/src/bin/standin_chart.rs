@@ -1,0 +1,43 @@
+//! The program `chart` of the stand-in, with its wrong variants.
+
+use std::io::{Read, Write};
+
+use host::fault::on;
+use reference::chart::draw_chart;
+use reference::listing::{list_chart, print_chart, MAX_INPUT};
+use reference::table::read_table;
+
+fn main() {
+    let mut input = Vec::new();
+    std::io::stdin().read_to_end(&mut input).expect("standard input can be read");
+    std::io::stdout().write_all(&spoil(&input)).expect("standard output can be written");
+}
+
+fn spoil(input: &[u8]) -> Vec<u8> {
+    let right = print_chart(input);
+    let text = String::from_utf8_lossy(&right).into_owned();
+    if on("print-blank-at-end") {
+        return text.replace('\n', " \n").into_bytes();
+    }
+    if text.starts_with("refused") {
+        return match text.trim_end() {
+            line if on("print-no-newline") => line.into(),
+            line if on("print-no-loop-step") && line.starts_with("refused 11") => b"refused 11\n".to_vec(),
+            _ if on("print-whole-input") && input.len() > MAX_INPUT => b"refused 1\n".to_vec(),
+            _ => right,
+        };
+    }
+    let table = read_table(input).unwrap();
+    let mut chart = draw_chart(&table).unwrap();
+    if on("print-point-number") {
+        for (point, edge) in chart.layout.edge_of.iter_mut().enumerate() {
+            *edge = edge.map(|_| point);
+        }
+    }
+    if on("print-steps-first") {
+        for row in &mut chart.order {
+            row.sort_by_key(|&point| chart.layout.edge_of[point].is_some());
+        }
+    }
+    list_chart(input, &table, &chart)
+}

@@ -1,0 +1,51 @@
+//! A stand-in for the product's library: the same symbols, answered by the reference. The variable
+//! STANDIN_FAULT chooses a deliberately wrong variant, so that the comparison itself can be tried.
+
+mod answers;
+pub mod fault;
+pub mod wrong_chart;
+mod wrong_order;
+mod wrong_rows;
+pub mod wrong_table;
+
+use std::slice::{from_raw_parts, from_raw_parts_mut};
+
+#[no_mangle]
+pub unsafe extern "C" fn yuvatondro_counts(table: *const u8, table_len: usize) -> u64 {
+    answers::counts(unsafe { from_raw_parts(table, table_len) })
+}
+
+#[no_mangle]
+pub unsafe extern "C" fn yuvatondro_name(table: *const u8, table_len: usize, step: usize) -> u64 {
+    answers::name(unsafe { from_raw_parts(table, table_len) }, step)
+}
+
+#[no_mangle]
+pub unsafe extern "C" fn yuvatondro_rows(table: *const u8, table_len: usize, rows: *mut u8, rows_len: usize) -> u64 {
+    unsafe { answers::rows(from_raw_parts(table, table_len), from_raw_parts_mut(rows, rows_len)) }
+}
+
+#[no_mangle]
+pub unsafe extern "C" fn yuvatondro_records(
+    steps: usize,
+    records: *const usize,
+    numbers: usize,
+    rows: *mut u8,
+    rows_len: usize,
+) -> u64 {
+    let records = unsafe { from_raw_parts(records as *const [usize; 4], numbers / 4) };
+    answers::records(steps, records, unsafe { from_raw_parts_mut(rows, rows_len) })
+}
+
+#[no_mangle]
+pub unsafe extern "C" fn yuvatondro_chart(
+    table: *const u8,
+    table_len: usize,
+    rows: *mut u8,
+    rows_len: usize,
+    order: *mut u16,
+    order_len: usize,
+) -> u64 {
+    let table = unsafe { from_raw_parts(table, table_len) };
+    unsafe { answers::chart(table, from_raw_parts_mut(rows, rows_len), from_raw_parts_mut(order, order_len)) }
+}

@@ -1,0 +1,79 @@
+//! The whole chart and its wrong variants.
+
+use reference::chart::Chart;
+use reference::points::{count_points, place_points, Layout, MAX_POINTS};
+use reference::records::rows_of_edges;
+use reference::refusal::Refusal;
+use reference::table::{read_table, Edge, Table};
+
+use crate::fault::on;
+use crate::wrong_order::find_order;
+use crate::wrong_rows;
+
+pub const SAMPLE: &[u8] = b"\x01\x04\x02\x1e\x04warm\x00\x04lock\x00\x05sweep\x01\x32\x05level\x04\
+\x00\x01\x01\x01\x01\x02\x02\x03\x00\x03\x01\x01\x03\x02\x01\x05";
+
+/// Wrong rows are handed out beside the points of the right ones, so that every variant has a chart.
+pub fn draw(table: &Table) -> Result<Chart, Refusal> {
+    if on("refuse-12-always") {
+        return Err(Refusal::TooManyPoints);
+    }
+    if on("sample-always") {
+        return reference::chart::draw_chart(&read_table(SAMPLE)?);
+    }
+    let handed_out = wrong_rows::rows(table.steps.len(), &table.edges)?;
+    let rows = rows_of_edges(table.steps.len(), &table.edges)?;
+    let most = if on("points-1025") {
+        MAX_POINTS + 1
+    } else if on("points-1023") {
+        MAX_POINTS - 1
+    } else {
+        MAX_POINTS
+    };
+    if count_points(&table.edges, &rows) > most {
+        return Err(Refusal::TooManyPoints);
+    }
+    let layout = renumber(place_points(&table.edges, &rows));
+    let (order, crossings) = find_order(&layout);
+    Ok(Chart { total: total(&table.edges, &handed_out), rows: handed_out, layout, order, crossings, best_pass: 0 })
+}
+
+fn total(edges: &[Edge], rows: &[usize]) -> u64 {
+    let term = |edge: &Edge| {
+        let length = rows[edge.to].saturating_sub(rows[edge.from]) as u64;
+        if on("total-unweighted") {
+            length
+        } else if on("total-of-gaps") {
+            u64::from(edge.weight * edge.gap)
+        } else {
+            u64::from(edge.weight) * length
+        }
+    };
+    edges.iter().map(term).sum()
+}
+
+/// Gives the pass points other numbers.
+fn renumber(layout: Layout) -> Layout {
+    let mut points: Vec<usize> = (0..layout.row_of.len()).collect();
+    if on("points-by-row") {
+        points
+            .sort_by_key(|&point| (layout.edge_of[point].map(|_| layout.row_of[point]), layout.edge_of[point], point));
+    } else if on("points-rising-up") {
+        points
+            .sort_by_key(|&point| (layout.edge_of[point], layout.edge_of[point].map_or(point, |_| usize::MAX - point)));
+    }
+    let mut number = vec![0; points.len()];
+    for (new, &old) in points.iter().enumerate() {
+        number[old] = new;
+    }
+    let ends =
+        |list: &[Vec<usize>]| points.iter().map(|&old| list[old].iter().map(|&end| number[end]).collect()).collect();
+    Layout {
+        row_count: layout.row_count,
+        row_of: points.iter().map(|&old| layout.row_of[old]).collect(),
+        edge_of: points.iter().map(|&old| layout.edge_of[old]).collect(),
+        pieces: layout.pieces.iter().map(|&(up, low)| (number[up], number[low])).collect(),
+        above: ends(&layout.above),
+        below: ends(&layout.below),
+    }
+}
