@@ -61,6 +61,14 @@ uint64_t yuvatondro_rows(const uint8_t *table, size_t table_len, uint8_t *rows, 
  * over are no edge. Refuses by 4, 8, then each edge in turn by 9 and 6, then 11, 13. */
 uint64_t yuvatondro_records(size_t steps, const size_t *records, size_t numbers, uint8_t *rows, size_t rows_len);
 
+/* The whole chart of a table: its rows as above, and to `order` its points, row by row from row 0 and each row from left to right. Points
+ * are the steps by number, then the dummies of the edges, by edge and then by rising row. Answers how many points there are, the
+ * weighted total of the rows, and the crossings of the order. Refuses by 1 to 13. */
+uint64_t yuvatondro_chart(const uint8_t *table, size_t table_len, uint8_t *rows, size_t rows_len, uint16_t *order, size_t order_len);
+static inline unsigned yuvatondro_points(uint64_t chart) { return (unsigned)(chart >> 8 & 0x7FF); }
+static inline unsigned long yuvatondro_total(uint64_t chart) { return (unsigned long)(chart >> 19 & 0x1FFFFFF); }
+static inline unsigned long yuvatondro_crossings(uint64_t chart) { return (unsigned long)(chart >> 44); }
+
 #ifdef __cplusplus
 }
 #endif

@@ -11,8 +11,8 @@ use lib.ListN.{length, drop}
 use Rattle.graph.specs.declared.Edge.{Edge}
 use Rattle.graph.specs.Search.{rowsOf}
 use Rattle.table.specs.declared.types.Refusal.{Refusal}
-use Rattle.table.specs.declared.types.Refusal.the-variants.{ManySteps, ManyEdges, BadEnd, OutOfRange, Loop, ShortBuffer}
-use Rattle.table.specs.Limits.{maxSteps, maxEdges, minGap, maxGap, maxWeight}
+use Rattle.table.specs.declared.types.Refusal.the-variants.{ManySteps, ManyEdges, BadEnd, OutOfRange, Loop, ManyPoints, ShortBuffer}
+use Rattle.table.specs.Limits.{maxSteps, maxEdges, minGap, maxGap, maxWeight, maxPoints}
 use Rattle.table.specs.Refusal.{Outcome, done, refused, thenDo, demand}
 use Rattle.table.specs.Table.{Contents, read}
 use Rattle.table.proofs.FairLaws.{read-fair}
@@ -20,6 +20,7 @@ use Rattle.table.proofs.RangeLaws.{read-range}
 use Rattle.table.proofs.CallLaws.{alone}
 use Rattle.layering.specs.Loops.{firstFrom, onLoop, lowestOnLoop}
 use Rattle.layering.specs.Calls.{unlessLoop, rowsFound, RowsEnd, rowsEnd, rowsOfTable, rowsCall, edgeJudged, recordsJudged, rowsOfRecords, recordCall}
+use Rattle.ordering.specs.Calls.{Placing, Charted, ChartEnd, pointCount, unlessMany, chartOfTable, charted, chartOut, filled, chartEnd, chartCall}
 use Rattle.host.specs.Words.{Narrow}
 
 never : {X A : Type 0} {a : A} {r : Refusal} → done a ≡ refused r → X
@@ -104,3 +105,35 @@ rows-narrow bytes old e = end-narrow (rowsOfTable bytes) old (λ g. table-narrow
 pub record-narrow : (n : ℕ) (edges : List Edge) (old : List ℕ) {f : Refusal} → recordCall n edges old .answer ≡ refused f → Narrow f
 unfolding recordCall
 record-narrow n edges old e = end-narrow (rowsOfRecords n edges) old (λ g. records-narrow n edges) e
+
+-- ---- the whole chart
+
+charts-narrow : (bytes : List ℕ) {f : Refusal} → chartOfTable bytes ≡ refused f → Narrow f
+unfolding chartOfTable
+charts-narrow bytes {f} e = go (read bytes) refl e
+  where
+    found : (t : Contents) (o : Outcome (List ℕ)) → ((g : Refusal) → o ≡ refused g → Narrow g) → thenDo o (λ rows. unlessMany t rows) ≡ refused f → Narrow f
+    found t (done rows) h e = demand-narrow (leb (pointCount rows (t .edges)) maxPoints) ManyPoints _ (omega arith) (λ _ k. never k) e
+    found t (refused g) h e = subst Narrow (same e) (h g refl)
+
+    go : (o : Outcome Contents) → read bytes ≡ o
+        → thenDo o (λ t. thenDo (rowsFound (length (t .steps)) (t .edges)) (λ rows. unlessMany t rows)) ≡ refused f → Narrow f
+    go (done t) r e =
+        found t (rowsFound (length (t .steps)) (t .edges)) (λ g. found-narrow (length (t .steps)) (t .edges) (read-fair bytes r .few-steps)) e
+    go (refused g) r e = subst Narrow (same e) (omega (arith, alone g (λ k. omega (arith, read-range bytes r))))
+
+pub chart-narrow : (bytes rows order : List ℕ) {f : Refusal} → chartCall bytes rows order .answer ≡ refused f → Narrow f
+unfolding chartCall
+chart-narrow bytes rows order {f} e = go (chartOfTable bytes) refl e
+  where
+    end : (c : Charted) (b : Bool)
+        → cond {A = ChartEnd} b (record { answer = done (c .figures); rows = filled (c .rows) rows; order = filled (c .order) order })
+        (record { answer = refused ShortBuffer; rows = rows; order = order }) .answer ≡ refused f → Narrow f
+    end c true e = never e
+    end c false e = subst Narrow (same e) (omega arith)
+
+    go : (o : Outcome Placing) → chartOfTable bytes ≡ o → chartEnd (chartOut o) rows order .answer ≡ refused f → Narrow f
+    go (done p) r e =
+        let c = charted (p .rows) (p .contents .edges) in
+        end c (leb (length (c .rows)) (length rows) && leb (length (c .order)) (length order)) e
+    go (refused g) r e = subst Narrow (same e) (charts-narrow bytes r)

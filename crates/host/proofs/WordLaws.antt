@@ -7,13 +7,18 @@ use lib.ListN.{length, take}
 use Rattle.graph.specs.declared.Edge.{Edge}
 use Rattle.table.specs.declared.types.Refusal.{Refusal}
 use Rattle.table.specs.Refusal.{Outcome, done, refused}
-use Rattle.table.specs.Table.{Contents}
+use Rattle.table.specs.Table.{Contents, read}
 use Rattle.table.proofs.CallLaws.{number-some}
 use Rattle.layering.specs.declared.types.RowsAnswer.{RowsAnswer}
 use Rattle.layering.specs.declared.types.RowsAnswer.the-variants.{Done, Refused}
 use Rattle.layering.specs.Calls.{rowsAnswer}
 use Rattle.layering.specs.Calls as rows
-use Rattle.host.specs.Words.{refusalWord, doneWord, RecordsBest, TableBest}
+use Rattle.ordering.specs.declared.Figures.{Figures}
+use Rattle.ordering.specs.declared.ChartAnswer.{ChartAnswer}
+use Rattle.ordering.specs.declared.ChartAnswer.the-variants.{Drawn}
+use Rattle.ordering.specs.Calls.{chartCall, chartAnswer}
+use Rattle.ordering.specs.Calls as chart
+use Rattle.host.specs.Words.{refusalWord, doneWord, RecordsBest, TableBest, ChartBest}
 
 -- the answer tells the outcome
 module _ (o : Outcome (Unit {0})) {a : RowsAnswer} where
@@ -50,3 +55,29 @@ table-best (refused r) buffer word v b = tt
 pub table-refused : (o : Outcome Contents) (buffer : List ℕ) (word : ℕ) (f : Refusal) → word ≡ refusalWord f → TableBest o word buffer
 table-refused (done t) buffer word f e = records-refused (length (t .steps)) (t .edges) buffer word f e
 table-refused (refused r) buffer word f e = tt
+
+-- ---- the whole chart
+
+module _ (bytes rows order : List ℕ) {a : ChartAnswer} (e : a ≡ chartAnswer (chartCall bytes rows order .answer)) where
+  pub chart-told : {f : Figures} → a ≡ Drawn f → chartCall bytes rows order .answer ≡ done f
+  chart-told {f} v = go (chartCall bytes rows order .answer) e
+    where
+      go : (o : Outcome Figures) → a ≡ chartAnswer o → o ≡ done f
+      go (done x) e = cc
+      go (refused r) e = let z : _≡_ {A = ℕ} 0 1 = cc in absurd (omega arith)
+
+  pub chart-not : {f : Refusal} → a ≡ ChartAnswer.Refused f → chartCall bytes rows order .answer ≡ refused f
+  chart-not {f} v = go (chartCall bytes rows order .answer) e
+    where
+      go : (o : Outcome Figures) → a ≡ chartAnswer o → o ≡ refused f
+      go (done x) e = let z : _≡_ {A = ℕ} 0 1 = cc in absurd (omega arith)
+      go (refused r) e = cc
+
+  -- demand 3, from the answer to the outcome
+  pub chart-best : (buffer : List ℕ) → chart.ChartBest (read bytes) a buffer → ChartBest (read bytes) (chartCall bytes rows order .answer) buffer
+  chart-best buffer b = go (read bytes) (chartCall bytes rows order .answer) e b
+    where
+      go : (t : Outcome Contents) (o : Outcome Figures) → a ≡ chartAnswer o → chart.ChartBest t a buffer → ChartBest t o buffer
+      go (done t) (done f) e b = subst (λ (x : ChartAnswer). chart.RowsBest (length (t .steps)) (t .edges) x buffer) e b
+      go (done t) (refused r) e b = tt
+      go (refused r) o e b = tt

@@ -1,5 +1,7 @@
 // The calls for C. Slices are a pointer and a length; answers are packed into one word, as specs/Words.antt says.
 use layering::types::RowsAnswer;
+use ordering::ChartAnswer;
+use ordering::Figures;
 use table::types::CountsAnswer;
 use table::types::NameAnswer;
 use table::types::Refusal;
@@ -8,11 +10,17 @@ ghost use Prim.Native.Nat.{_≤_};
 ghost use Rattle.table.specs.Table.{read};
 ghost use Rattle.table.specs.Calls.{countsCall, nameCall};
 ghost use Rattle.layering.specs.Calls.{rowsCall, recordsOf, recordCall};
-ghost use Rattle.host.specs.Words.{countsWord, nameWord, doneWord, refusalWord, stepOf, Narrow, TableBest, RecordsBest};
+ghost use Rattle.ordering.specs.Calls.{chartCall};
+ghost use Rattle.ordering.specs.Charting.{Small};
+ghost use Rattle.host.specs.Words.{countsWord, nameWord, doneWord, refusalWord, stepOf, Narrow, TableBest, RecordsBest, chartWord, figuresWord, ChartBest};
 
 const SECOND: usize = 0x100;
 
 const THIRD: usize = 0x10000;
+
+const TOTAL: usize = 0x80000;
+
+const CROSSINGS: usize = 0x100000000000;
 
 // The steps and the edges of a table.
 #[no_mangle]
@@ -60,6 +68,28 @@ pub extern "C" fn yuvatondro_records(steps: usize, records: &[usize], rows: &mut
         RowsAnswer::Refused(f) => refusal_word(f),
         RowsAnswer::Done => 0,
     }
+}
+
+// The whole chart of a table: rows as above, and the points row by row to a lent buffer.
+#[no_mangle]
+pub extern "C" fn yuvatondro_chart(table: &[u8], rows: &mut [u8], order: &mut [u16]) -> u64
+    ensures { λ r. ⌜ r ≡ figuresWord (chartCall (now (table .entry)) (now (rows .entry)) (now (order .entry)) .answer) ⌝ }
+    ensures { λ _. ⌜ now (rows .exit) ≡ chartCall (now (table .entry)) (now (rows .entry)) (now (order .entry)) .rows ⌝ }
+    ensures { λ _. ⌜ now (order .exit) ≡ chartCall (now (table .entry)) (now (rows .entry)) (now (order .entry)) .order ⌝ }
+    ensures { λ _. ⌜ ChartBest (read (now (table .entry))) (chartCall (now (table .entry)) (now (rows .entry)) (now (order .entry)) .answer) (now (rows .exit)) ⌝ }
+{
+    match ordering::draw_chart(table, rows, order) {
+        ChartAnswer::Refused(f) => refusal_word(f),
+        ChartAnswer::Drawn(f) => figures_word(f),
+    }
+}
+
+// The numbers that go with a chart as a word.
+fn figures_word(f: Figures) -> u64
+    requires { ⌜ Small f ⌝ }
+    ensures { λ r. ⌜ r ≡ chartWord f ⌝ }
+{
+    (f.points * SECOND + f.total * TOTAL + f.crossings * CROSSINGS) as u64
 }
 
 // A refusal as a word.

@@ -1,0 +1,20 @@
+// The only place that knows how our chart call is made and answers.
+#ifndef CHART_CALL_H
+#define CHART_CALL_H
+#include "drawing.h"
+
+enum { REFUSED_MANY_POINTS = 12 };
+
+typedef struct {
+  unsigned refusal;
+  long points, total, crossings;
+  uint8_t rows[MAX_NODES];
+  uint16_t order[MAX_POINTS];
+} ChartAnswer;
+
+// The whole chart of a table.
+void call_chart(const uint8_t *table, size_t length, ChartAnswer *answer);
+
+// An accepted answer as a drawing; 0 where its order is no order of its points.
+int read_chart(const Instance *inst, const ChartAnswer *answer, Drawing *d);
+#endif

@@ -1,0 +1,191 @@
+// Times the chart call against graphviz's dot and checks every answer.
+//   charts FILE..   the shapes of shapes.c and the stored instances FILE..
+//
+// Timed: of ours the whole call, from the table's bytes to rows and order. Of dot gvLayout alone, as graphviz.c sets it up.
+// In turn: every program once on every table, round after round, the median kept.
+#include "chart_call.h"
+#include "graphviz.h"
+#include "rows_call.h"
+#include <math.h>
+#include <stdio.h>
+#include <stdlib.h>
+#include <string.h>
+
+enum { ROUNDS = 5, SEEDS = 2, NODES = 64, EDGES = 192, MAX_CASES = 64 };
+
+typedef struct {
+  Instance inst;
+  uint8_t table[MAX_TABLE];
+  size_t length;
+  ChartAnswer answer;
+  long dot_crossings;
+  double ours[ROUNDS], dot[SETTINGS][ROUNDS], apart[ROUNDS];
+} Case;
+
+typedef struct { double log_sum, least; const char *least_name; size_t count; } Ratios;
+
+static void stop(const Case *c, const char *fault) {
+  printf("%s: %s\n", c->inst.name, fault);
+  exit(1);
+}
+static void prepare(Case *c) { c->length = write_table(&c->inst, c->table); }
+
+// Our answer against its own order: rows feasible, order an order of the points, and points, total and crossings counted again.
+static void check_ours(const Case *c) {
+  static Drawing d;
+  const ChartAnswer *a = &c->answer;
+  if (a->refusal != 0) stop(c, "refused");
+  if (!read_chart(&c->inst, a, &d)) stop(c, "no order of its points");
+  if (!is_feasible(&c->inst, &d)) stop(c, "rows not feasible");
+  if (count_points(&c->inst, &d) != a->points) stop(c, "other points");
+  if (count_total(&c->inst, &d) != a->total) stop(c, "other total");
+  if (count_crossings(&c->inst, &d) != a->crossings) stop(c, "other crossings");
+}
+// dot also ranks for the least total, so it must be ours: both were given the same problem.
+static void check_dot(Case *c, const Drawing *d) {
+  if (!is_feasible(&c->inst, d)) stop(c, "dot's ranks not feasible");
+  if (count_total(&c->inst, d) != c->answer.total) stop(c, "dot has another total");
+  c->dot_crossings = count_crossings(&c->inst, d);
+}
+static double run_ours(Case *c) {
+  memset(&c->answer, 255, sizeof c->answer);  // so that each call must write its answer
+  double start = now_us();
+  call_chart(c->table, c->length, &c->answer);
+  double end = now_us();
+  check_ours(c);
+  return end - start;
+}
+static void run_dot(Case *c, int setting, int round) {
+  static Drawing d;
+  DotTimes times;
+  int read = setting == ORDER_ONLY;
+  if (!draw_by_dot(&c->inst, setting, &times, read ? &d : NULL)) stop(c, "dot failed");
+  if (read) check_dot(c, &d);
+  if (setting == NO_CURVES) c->apart[round] = times.apart_us;
+  c->dot[setting][round] = times.layout_us;
+}
+// One table once by each program; which goes first changes from round to round.
+static void run_case(Case *c, int round) {
+  if (round % 2 == 0) c->ours[round] = run_ours(c);
+  for (int s = 0; s < SETTINGS; s++) run_dot(c, s, round);
+  if (round % 2) c->ours[round] = run_ours(c);
+}
+static void run_all(Case *cases, size_t count) {
+  for (int round = 0; round < ROUNDS; round++)
+    for (size_t i = 0; i < count; i++) run_case(&cases[i], round);
+}
+
+static int compare(const void *a, const void *b) {
+  double x = *(const double *)a, y = *(const double *)b;
+  return (x > y) - (x < y);
+}
+static double median(const double *times) {
+  double sorted[ROUNDS];
+  memcpy(sorted, times, sizeof sorted);
+  qsort(sorted, ROUNDS, sizeof *sorted, compare);
+  return sorted[ROUNDS / 2];
+}
+
+static void add_ratio(Ratios *r, double ratio, const char *name) {
+  r->log_sum += log(ratio);
+  if (r->count++ == 0 || ratio < r->least) {
+    r->least = ratio;
+    r->least_name = name;
+  }
+}
+static void print_case(const Case *c) {
+  printf("%-16s %5zu %5zu %6ld %6ld %6ld %8.1f", c->inst.name, c->inst.nodes, c->inst.edges, c->answer.points, c->answer.crossings,
+         c->dot_crossings, median(c->ours));
+  for (int s = 0; s < SETTINGS; s++) printf(" %9.0f %7.2f", median(c->dot[s]), median(c->dot[s]) / median(c->ours));
+  printf(" %8.0f\n", median(c->apart));
+}
+static void print_ratios(const Ratios *ratios) {
+  static const char *const titles[SETTINGS] = { "ranks and order alone:", "no curves:", "as it comes:" };
+  for (int s = 0; s < SETTINGS; s++)
+    printf("  %-22s geometric mean %6.2f, smallest %6.2f (%s)\n", titles[s], exp(ratios[s].log_sum / ratios[s].count), ratios[s].least,
+           ratios[s].least_name);
+}
+static void add_case(Ratios *ratios, const Case *c) {
+  for (int s = 0; s < SETTINGS; s++) add_ratio(&ratios[s], median(c->dot[s]) / median(c->ours), c->inst.name);
+}
+static void print_group(const char *title, const Case *cases, size_t count, Ratios *all) {
+  Ratios group[SETTINGS] = { 0 };
+  if (count == 0) return;
+  printf("\n%s\n%-16s %5s %5s %6s | crossings: ours, dot | ours | dot, dot / ours: ranks and order, no curves, as it comes | apart (us)\n",
+         title, "", "nodes", "edges", "points");
+  for (size_t i = 0; i < count; i++) {
+    print_case(&cases[i]);
+    add_case(group, &cases[i]);
+    add_case(all, &cases[i]);
+  }
+  print_ratios(group);
+}
+
+// 1 where the table has few enough points.
+static int is_accepted(Case *c) {
+  prepare(c);
+  call_chart(c->table, c->length, &c->answer);
+  if (c->answer.refusal != 0 && c->answer.refusal != REFUSED_MANY_POINTS) stop(c, "refused, but not for its points");
+  return c->answer.refusal == 0;
+}
+// The first edges of a refused table, as many as are accepted: it then has about as many points as a chart may have.
+static void cut(Case *c) {
+  while (!is_accepted(c)) {
+    if (c->inst.edges == 0) stop(c, "refused without edges");
+    c->inst.edges--;
+  }
+}
+// The shapes that are accepted as they are, and the others cut.
+static size_t make_cases(Case *whole, Case *near, size_t *cut_count) {
+  size_t count = 0;
+  *cut_count = 0;
+  for (size_t shape = 0; shape < shape_count(); shape++)
+    for (int seed = 1; seed <= SEEDS; seed++) {
+      Case *c = &whole[count];
+      make_shape(&c->inst, shape, NODES, EDGES, seed);
+      if (is_accepted(c)) {
+        count++;
+        continue;
+      }
+      near[*cut_count] = *c;
+      cut(&near[(*cut_count)++]);
+    }
+  return count;
+}
+
+// The stored instances that are accepted.
+static size_t read_stored(Case *cases, int files, char **paths) {
+  size_t count = 0;
+  for (int k = 0; k < files; k++) {
+    if (!read_instance(&cases[count].inst, paths[k])) {
+      printf("%s: no instance\n", paths[k]);
+      exit(1);
+    }
+    count += is_accepted(&cases[count]);
+  }
+  return count;
+}
+static void print_counts(const char *title, size_t accepted, size_t refused) {
+  printf("%s: %zu accepted, %zu refused for their points\n", title, accepted, refused);
+}
+
+int main(int argc, char **argv) {
+  static Case whole[MAX_CASES], near[MAX_CASES], stored[MAX_CASES];
+  Ratios all[SETTINGS] = { 0 };
+  size_t files = argc - 1, near_count;
+  if (files > MAX_CASES || shape_count() * SEEDS > MAX_CASES) return 2;
+  size_t count = make_cases(whole, near, &near_count), stored_count = read_stored(stored, files, argv + 1);
+  printf("graphviz %s\n", dot_version());
+  print_counts("Shapes", count, near_count);
+  print_counts("Stored", stored_count, files - stored_count);
+  run_all(whole, count);
+  run_all(near, near_count);
+  run_all(stored, stored_count);
+  print_group("Shapes, 64 nodes and 192 edges at most", whole, count, all);
+  print_group("The refused shapes, with as many of their first edges as are accepted", near, near_count, all);
+  print_group("Stored: found by searching for instances bad for our rows", stored, stored_count, all);
+  printf("\nAll tables\n");
+  print_ratios(all);
+  printf("\nEvery answer of ours was counted again from its rows and order; dot's ranks had our total each time.\n");
+  return 0;
+}

@@ -1,0 +1,131 @@
+-- The bounds of what the chart call tells, for callers that pack it.
+use mathlib.Core.Path.{_≡_, refl, ap, subst}
+use mathlib.Core.Bool.{Bool, true, false, _&&_, cond}
+use mathlib.Core.List.{List, [], _∷_}
+use Prim.Native.Nat.{ℕ, zero, suc, _+_, _*_, _-_, _≤_, _<_, suc-le-suc}
+use native.Mathlib.Nat.{mul-le-mul-left, mul-comm, zero-lt-suc}
+use native.Mathlib.Omega.{arith}
+use borrow.Author.Tests.{leb-true}
+use lib.Dec.{leb}
+use lib.ListN.{length, getD, take}
+use lib.Seq.{getD-take}
+use Rattle.graph.specs.declared.Edge.{Edge}
+use Rattle.graph.specs.Rows.{at, noEdge, total}
+use Rattle.table.specs.declared.types.Refusal.{Refusal}
+use Rattle.table.specs.declared.types.Refusal.the-variants.{ManyPoints, ShortBuffer}
+use Rattle.table.specs.Limits.{maxEdges, maxPoints, maxWeight}
+use Rattle.table.specs.Refusal.{Outcome, done, refused, thenDo, demand}
+use Rattle.table.specs.Table.{Contents, read}
+use Rattle.table.proofs.FairLaws.{read-fair}
+use Rattle.layering.specs.Calls.{rowsFound}
+use Rattle.layering.specs.Placed.{topRow, FairEdges}
+use Rattle.layering.proofs.PlaceLaws.{best-low}
+use Rattle.ordering.specs.declared.Figures.{Figures}
+use Rattle.ordering.specs.declared.ChartAnswer.{ChartAnswer}
+use Rattle.ordering.specs.declared.ChartAnswer.the-variants.{Drawn}
+use Rattle.ordering.specs.Points.{pointRows, segments, rowCount}
+use Rattle.ordering.specs.Crossings.{Drawing, bestOrder, drawingOf}
+use Rattle.ordering.specs.Calls.{Placing, Charted, ChartEnd, pointCount, unlessMany, chartOfTable, charted, chartOut, filled, chartEnd, chartCall, RowsBest, ChartBest}
+use Rattle.ordering.specs.Charting.{Small}
+use Rattle.ordering.proofs.PointLaws.{points-length, segments-length}
+use Rattle.ordering.proofs.CrossingsLaws.{crossings-most}
+use Rattle.ordering.proofs.FewestLaws.{best-crossings}
+
+-- Each edge has one segment more than dummies, so there are fewer segments than points and edges together, and twice the crossings are
+-- at most the square of that number.
+crossings-low : (ys : List ℕ) (edges : List Edge) → length edges ≤ maxEdges → length (pointRows ys edges) ≤ maxPoints
+    → 2 * drawingOf ys edges .crossings ≤ (maxPoints + maxEdges) * (maxPoints + maxEdges)
+unfolding drawingOf segments
+crossings-low ys edges m p =
+    let s = segments ys edges in
+    let few : length s ≤ maxPoints + maxEdges = omega (arith, segments-length ys (length ys) edges, points-length ys edges) in
+    omega (
+      arith,
+      best-crossings (pointRows ys edges) s (rowCount ys),
+      crossings-most (pointRows ys edges) s (bestOrder (rowCount ys) (pointRows ys edges) s .order),
+      mul-le-mul-left (length s) few,
+      mul-le-mul-left (maxPoints + maxEdges) few,
+      mul-comm (length s) (maxPoints + maxEdges),
+    )
+
+-- a total of small weights over heads in low rows
+total-low : (edges : List Edge) (y : ℕ → ℕ) (w t : ℕ) → ((i : ℕ) → i < length edges → (getD edges i noEdge .weight ≤ w) × (y (getD edges i noEdge .to) ≤ t))
+    → total edges y ≤ length edges * (w * t)
+unfolding total
+total-low [] y w t h = omega arith
+total-low (e ∷ edges) y w t h =
+    let low = h zero (zero-lt-suc (length edges)) in
+    let span : y (e .to) - y (e .from) ≤ t = omega arith in
+    omega (
+      arith,
+      total-low edges y w t (λ i b. h (suc i) (suc-le-suc b)),
+      mul-le-mul-left (e .weight) span,
+      mul-le-mul-left t (low .0),
+      mul-comm (e .weight) t,
+      mul-comm w t,
+    )
+
+module _ (bytes rows order : List ℕ) (f : Figures) (buffer : List ℕ) where
+  never : {X : Type 0} {r : Refusal} → _≡_ {A = Outcome Figures} (refused r) (done f) → X
+  never e = let z : _≡_ {A = ℕ} 0 1 = cc in absurd (omega arith)
+
+  low : (t : Contents) → read bytes ≡ done t → RowsBest (length (t .steps)) (t .edges) (Drawn f) buffer
+      → (v : ℕ) → v < length (t .steps) → at (take (length (t .steps)) buffer) v ≤ topRow
+  low t r b v h =
+      let fair = read-fair bytes r in
+      let n = length (t .steps) in
+      let edges : FairEdges n (t .edges) = record { few-steps = fair .few-steps; few-edges = fair .few-edges; each = fair .each-edge } in
+      rw (getD-take n buffer v 0 h) (best-low n (t .edges) buffer edges (b .0) v h)
+
+  small : (t : Contents) (ys : List ℕ) → read bytes ≡ done t → length (pointRows ys (t .edges)) ≤ maxPoints
+      → charted ys (t .edges) .figures ≡ f → RowsBest (length (t .steps)) (t .edges) (Drawn f) buffer → Small f
+  small t ys r p e b =
+      let fair = read-fair bytes r in
+      let n = length (t .steps) in
+      record {
+        few-points = subst (λ (x : Figures). x .points ≤ maxPoints) e p;
+        few-crossings =
+            subst (λ (x : Figures). 2 * x .crossings ≤ (maxPoints + maxEdges) * (maxPoints + maxEdges)) e
+            (crossings-low ys (t .edges) (fair .few-edges) p);
+        low-total =
+            omega (
+              arith,
+              b .1,
+              total-low (t .edges) (at (take n buffer)) maxWeight topRow (λ i h. (fair .each-edge i h .weight-low, low t r b (getD (t .edges) i noEdge .to) (fair .each-edge i h .to-in))),
+              mul-le-mul-left (maxWeight * topRow) (fair .few-edges),
+              mul-comm (length (t .edges)) (maxWeight * topRow),
+              mul-comm maxEdges (maxWeight * topRow),
+            );
+      }
+
+  end : (t : Contents) (ys : List ℕ) (b : Bool) → read bytes ≡ done t → length (pointRows ys (t .edges)) ≤ maxPoints
+      → cond {A = ChartEnd} b
+      (record { answer = done (charted ys (t .edges) .figures); rows = filled ys rows; order = filled (charted ys (t .edges) .order) order })
+      (record { answer = refused ShortBuffer; rows = rows; order = order }) .answer ≡ done f
+      → RowsBest (length (t .steps)) (t .edges) (Drawn f) buffer → Small f
+  end t ys true r p e b = let k : charted ys (t .edges) .figures ≡ f = cc in small t ys r p k b
+  end t ys false r p e b = never e
+
+  -- a chart that is handed out has small figures
+  pub figures-small : chartCall bytes rows order .answer ≡ done f → ChartBest (read bytes) (Drawn f) buffer → Small f
+  unfolding chartCall chartOfTable
+  figures-small = go (read bytes) refl
+    where
+      many : (t : Contents) (ys : List ℕ) (b : Bool) → read bytes ≡ done t → leb (pointCount ys (t .edges)) maxPoints ≡ b
+          → chartEnd (chartOut (demand b ManyPoints (done (record { contents = t; rows = ys })))) rows order .answer ≡ done f
+          → RowsBest (length (t .steps)) (t .edges) (Drawn f) buffer → Small f
+      many t ys true r p e b =
+          end t ys (leb (length ys) (length rows) && leb (length (charted ys (t .edges) .order)) (length order)) r (leb-true _ _ p) e b
+      many t ys false r p e b = never e
+
+      found : (t : Contents) (o : Outcome (List ℕ)) → read bytes ≡ done t
+          → chartEnd (chartOut (thenDo o (λ ys. unlessMany t ys))) rows order .answer ≡ done f
+          → RowsBest (length (t .steps)) (t .edges) (Drawn f) buffer → Small f
+      found t (done ys) r e b = many t ys (leb (pointCount ys (t .edges)) maxPoints) r refl e b
+      found t (refused g) r e b = never e
+
+      go : (o : Outcome Contents) → read bytes ≡ o
+          → chartEnd (chartOut (thenDo o (λ t. thenDo (rowsFound (length (t .steps)) (t .edges)) (λ ys. unlessMany t ys)))) rows order .answer ≡ done f
+          → ChartBest o (Drawn f) buffer → Small f
+      go (done t) r e b = found t (rowsFound (length (t .steps)) (t .edges)) r e b
+      go (refused g) r e b = never e

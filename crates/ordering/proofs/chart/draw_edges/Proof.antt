@@ -1,0 +1,55 @@
+-- The ends of the edges make a chart of their best rows, and what is drawn of the ends is the chart of the edges.
+use Rattle.ordering.proofs.SplitLaws.{part-from, part-to}
+use Rattle.ordering.proofs.ChartLaws.{sizable, found-many, found-drawn}
+use borrow.Author.Needs.{needs}
+use Rattle.ordering.proofs.chart.draw_edges.Statement.{statement}
+use Rattle.ordering.proofs.chart.draw_edges.Tie as tie
+
+split-ends-requires : tie.Need-split-ends-requires
+split-ends-requires c κs = search needs
+
+array-share-prefix-rows : tie.Need-array-share-prefix-rows
+array-share-prefix-rows c = search needs
+
+slice-aggregate-draw-ends : tie.Need-slice-aggregate-draw-ends
+slice-aggregate-draw-ends c = search needs
+
+array-share-prefix-from : tie.Need-array-share-prefix-from
+array-share-prefix-from c = search needs
+
+slice-aggregate-draw-ends-2 : tie.Need-slice-aggregate-draw-ends-2
+slice-aggregate-draw-ends-2 c = part-from (c .before .before .before .before .split-ends .ensures) (c .before .before .before .before .before .pre .1 .0)
+
+array-share-prefix-to : tie.Need-array-share-prefix-to
+array-share-prefix-to c = search needs
+
+slice-aggregate-draw-ends-3 : tie.Need-slice-aggregate-draw-ends-3
+slice-aggregate-draw-ends-3 c = part-to (c .before .before .before .before .before .split-ends .ensures) (c .before .before .before .before .before .before .pre .1 .0)
+
+draw-ends-requires : tie.Need-draw-ends-requires
+draw-ends-requires c κs = let f = c .before .before .before .before .before .split-ends .ensures in sizable _ _ _ _ (c .before .before .before .before .before .before .pre .0) _ _ (f .tails) (f .heads)
+
+refuse-chart-requires : tie.Need-refuse-chart-requires
+refuse-chart-requires c κs = search needs
+
+returns : tie.Need-returns
+returns c = let f = c .before .before .before .before .before .before .before .before .before .split-ends .ensures in found-many _ _ _ _ (c .before .before .before .before .before .before .before .before .before .before .pre .0) _ _ (f .tails) (f .heads) _ _ _ (c .before .before .before .draw-ends .ensures) (c .before .if1 .taken) _ (c .refuse-chart .ensures)
+
+returns-2 : tie.Need-returns-2
+returns-2 c = let f = c .before .before .before .before .before .before .before .before .before .split-ends .ensures in found-drawn _ _ _ _ (c .before .before .before .before .before .before .before .before .before .before .pre .0) _ _ (f .tails) (f .heads) _ _ _ (c .before .before .before .draw-ends .ensures) (c .before .if1 .left)
+
+pub draw-edges-spec : {M : Type 1} → statement M
+draw-edges-spec =
+    tie.close
+    (tie.spec
+    split-ends-requires
+    array-share-prefix-rows
+    slice-aggregate-draw-ends
+    array-share-prefix-from
+    slice-aggregate-draw-ends-2
+    array-share-prefix-to
+    slice-aggregate-draw-ends-3
+    draw-ends-requires
+    refuse-chart-requires
+    returns
+    returns-2)

@@ -1,0 +1,63 @@
+-- The first i edges stand in the arrays.
+use Prim.Native.Nat.{_-_, _≤_}
+use native.Mathlib.Omega.{arith}
+use Rattle.ordering.proofs.SplitLaws.{Splitting, splitting-none, splitting-more, splitting-all}
+use Rattle.ordering.proofs.chart.split_ends.Statement.{statement}
+use Rattle.ordering.proofs.chart.split_ends.Tie as tie
+
+abbrev Inv-loop : tie.InvT-loop
+Inv-loop m edges from₀ to₀ i₀ from to i = Splitting edges i from to × (i ≤ m)
+
+abbrev μ-loop : tie.MeasureT-loop
+μ-loop m edges from₀ to₀ i₀ from to i = m - i
+
+loop-holds : tie.Need-loop-holds Inv-loop μ-loop
+loop-holds c = (splitting-none _, omega arith)
+
+mul-e : tie.Need-mul-e Inv-loop μ-loop
+mul-e c = omega arith
+
+array-copy-out-e : tie.Need-array-copy-out-e Inv-loop μ-loop
+array-copy-out-e c = omega arith
+
+mul-from : tie.Need-mul-from Inv-loop μ-loop
+mul-from c = omega arith
+
+array-write-from : tie.Need-array-write-from Inv-loop μ-loop
+array-write-from c = omega arith
+
+mul-to : tie.Need-mul-to Inv-loop μ-loop
+mul-to c = omega arith
+
+array-write-to : tie.Need-array-write-to Inv-loop μ-loop
+array-write-to c = omega arith
+
+add-i : tie.Need-add-i Inv-loop μ-loop
+add-i c = omega arith
+
+loop-less : tie.Need-loop-less Inv-loop μ-loop
+loop-less c = omega arith
+
+loop-again : tie.Need-loop-again Inv-loop μ-loop
+loop-again c = (splitting-more _ _ _ _ (c .before .before .loop .inv .0) (omega arith), omega arith)
+
+returns : tie.Need-returns Inv-loop μ-loop
+returns c = let s = c .before .before in splitting-all _ _ _ _ (c .before .loop .inv .0) (s .args .m) (omega arith) (s .pre .0) (s .pre .1)
+
+pub split-ends-spec : {M : Type 1} → statement M
+split-ends-spec =
+    tie.close
+    (tie.spec
+    Inv-loop
+    μ-loop
+    loop-holds
+    mul-e
+    array-copy-out-e
+    mul-from
+    array-write-from
+    mul-to
+    array-write-to
+    add-i
+    loop-less
+    loop-again
+    returns)

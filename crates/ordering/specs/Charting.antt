@@ -1,0 +1,102 @@
+-- What the functions behind the whole chart ask for and answer.
+use mathlib.Core.Path.{_≡_}
+use mathlib.Core.List.{List, map}
+use Prim.Native.Nat.{ℕ, _+_, _*_, _≤_, _<_}
+use lib.Dec.{leb}
+use lib.ListN.{length, take}
+use Rattle.graph.specs.declared.Edge.{Edge}
+use Rattle.graph.specs.Rows.{at, total, Best}
+use Rattle.table.specs.declared.types.Refusal.the-variants.{ManyPoints}
+use Rattle.table.specs.declared.types.Verdict.the-variants.{Accepted}
+use Rattle.table.specs.Limits.{maxSteps, maxEdges, maxPoints, maxWeight}
+use Rattle.table.specs.Refusal.{Outcome, done, demand}
+use Rattle.table.specs.Table.{read}
+use Rattle.layering.specs.Placed.{outcomeBy, topRow, FairEdges, contentsOf}
+use Rattle.ordering.specs.declared.Figures.{Figures}
+use Rattle.ordering.specs.declared.ChartAnswer.{ChartAnswer}
+use Rattle.ordering.specs.declared.chart.ChartFound.{ChartFound}
+use Rattle.ordering.specs.Points.{pointRows}
+use Rattle.ordering.specs.Crossings.{drawingOf}
+use Rattle.ordering.specs.Flat.{Below}
+use Rattle.ordering.specs.Laying.{edgesBetween, Chart}
+use Rattle.ordering.specs.Drawing.{DrawnIs}
+use Rattle.ordering.specs.Calls.{pointCount, Charted, charted, chartOut, chartOfTable, chartEnd, chartAnswer}
+
+-- the first m entries of two arrays are the ends of the first m edges
+pub record Split (m : ℕ) (edges : List Edge) (from to : List ℕ) : Type 0 where
+  pub tails : take m from ≡ map (λ (e : Edge). e .from) (take m edges)
+  pub heads : take m to ≡ map (λ (e : Edge). e .to) (take m edges)
+  pub from-long : length from ≡ maxEdges
+  pub to-long : length to ≡ maxEdges
+
+-- a chart that is to be drawn, if it has few points
+pub record Sizable (ys from to : List ℕ) : Type 0 where
+  pub chart : Chart ys from to
+  pub few-edges : length from ≤ maxEdges
+  pub few-rows : Below maxPoints ys
+
+-- the number of its points, and where that is not too large, its drawing
+pub record PointsAre (ys from to : List ℕ) (points : ℕ) (order : List ℕ) (crossings : ℕ) : Type 0 where
+  pub count : points ≡ length (pointRows ys (edgesBetween from to))
+  pub drawn : points ≤ maxPoints → DrawnIs (drawingOf ys (edgesBetween from to)) order crossings
+
+-- best rows of fair edges, in the first n entries of an array, and their total
+pub record Solved (n : ℕ) (edges : List Edge) (rows : List ℕ) (sum : ℕ) : Type 0 where
+  pub fair : FairEdges n edges
+  pub best : Best n edges (take n rows)
+  pub summed : sum ≡ total edges (at (take n rows))
+  pub long : length rows ≡ maxSteps
+  pub low : (v : ℕ) → v < n → at rows v ≤ topRow
+
+-- what arrays and numbers hold
+abbrev pub chartedBy : ChartFound → Charted
+chartedBy f =
+    record {
+      rows = take (f .n) (f .rows);
+      order = take (f .points) (f .order);
+      figures = record { points = f .points; total = f .total; crossings = f .crossings };
+    }
+
+-- the outcome that they hold
+abbrev pub foundOf : ChartFound → Outcome Charted
+foundOf f = outcomeBy (f .verdict) (chartedBy f)
+
+-- what can be handed out: the entries are there, and each fits a buffer's
+pub record Storable (f : ChartFound) : Type 0 where
+  pub few-rows : f .n ≤ length (f .rows)
+  pub few-points : f .points ≤ length (f .order)
+  pub low-rows : (v : ℕ) → v < f .n → at (f .rows) v ≤ topRow
+  pub low-points : (i : ℕ) → i < f .points → at (f .order) i < maxPoints
+
+pub record Handable (f : ChartFound) : Type 0 where
+  pub storable : f .verdict ≡ Accepted → Storable f
+
+-- an outcome in arrays: where it is not refused, it can be handed out, its rows are the best of the edges, and its total is theirs
+pub record Found (n : ℕ) (edges : List Edge) (what : Outcome Charted) (f : ChartFound) : Type 0 where
+  pub says : foundOf f ≡ what
+  pub handable : Handable f
+  pub best : f .verdict ≡ Accepted → Best n edges (take (f .n) (f .rows))
+  pub summed : f .verdict ≡ Accepted → f .total ≡ total edges (at (take (f .n) (f .rows)))
+
+-- the chart of edges in their rows: refused where it has too many points
+abbrev pub unlessLarge : List ℕ → List Edge → Outcome Charted
+unlessLarge rows edges = demand (leb (pointCount rows edges) maxPoints) ManyPoints (done (charted rows edges))
+
+abbrev pub EdgesFound : ℕ → List Edge → List ℕ → ChartFound → Type 0
+EdgesFound n edges rows f = Found n edges (unlessLarge rows edges) f
+
+-- the chart of a table
+abbrev pub TableFound : List ℕ → ChartFound → Type 0
+TableFound bytes f = Found (length (contentsOf (read bytes) .steps)) (contentsOf (read bytes) .edges) (chartOut (chartOfTable bytes)) f
+
+-- an outcome handed out in two buffers
+pub record HandedOut (what : Outcome Charted) (rows order rows′ order′ : List ℕ) (r : ChartAnswer) : Type 0 where
+  pub answer : r ≡ chartAnswer (chartEnd what rows order .answer)
+  pub rows-are : rows′ ≡ chartEnd what rows order .rows
+  pub order-is : order′ ≡ chartEnd what rows order .order
+
+-- the figures of a chart are no larger: each edge has one segment more than dummies, and no row is above topRow
+pub record Small (f : Figures) : Type 0 where
+  pub few-points : f .points ≤ maxPoints
+  pub few-crossings : 2 * f .crossings ≤ (maxPoints + maxEdges) * (maxPoints + maxEdges)
+  pub low-total : f .total ≤ maxEdges * (maxWeight * topRow)

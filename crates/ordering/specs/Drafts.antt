@@ -1,0 +1,88 @@
+-- A drawing on its way: the order that the passes work on, the best so far beside it, and what is left to do.
+use mathlib.Core.Path.{_≡_}
+use mathlib.Core.List.{List, map, flatten}
+use Prim.Native.Nat.{ℕ, suc, _≤_, _<_}
+use lib.ListN.{length, take}
+use Rattle.table.specs.Limits.{maxPoints}
+use Rattle.ordering.specs.Points.{Segment}
+use Rattle.ordering.specs.Order.{Direction, downward, results}
+use Rattle.ordering.specs.Crossings.{Drawing, crossings, drawn, fewest, bestOrder}
+use Rattle.ordering.specs.Flat.{Below}
+use Rattle.ordering.specs.Bounds.{countLimit}
+use Rattle.ordering.specs.Laid.{segmentsIn, rowsIn, Ends, Laid}
+use Rattle.ordering.specs.Placing.{Linked}
+use Rattle.ordering.specs.Drawing.{maxSegments}
+
+-- What a loop over the passes has left to do: the best so far against the results of the k passes that are left, the next one in
+-- direction d on the order o.
+unfoldable pub restFrom : List ℕ → List Segment → List (List ℕ) → ℕ → Direction → List (List ℕ) → Drawing
+restFrom ys segs best k d o = fewest (drawn ys segs best) (map (drawn ys segs) (results segs ys k d o))
+
+-- the drawing of points in their rows and of segments by their ends; `first` has as many rows as there are
+abbrev pub bestIn : List ℕ → List ℕ → List ℕ → List ℕ → Drawing
+bestIn row upper lower first = bestOrder (rowsIn first) row (segmentsIn upper lower)
+
+-- segments between points, one entry for each
+pub record Segmented (row upper lower : List ℕ) : Type 0 where
+  pub both : length lower ≡ length upper
+  pub upper-in : Below (length row) upper
+  pub lower-in : Below (length row) lower
+  pub few : length upper < countLimit
+
+-- points and segments of few enough rows
+pub record Sketched (row upper lower : List ℕ) (count : ℕ) : Type 0 where
+  pub segmented : Segmented row upper lower
+  pub few-points : length row ≤ maxPoints
+  pub few-segments : length upper ≤ maxSegments
+  pub few-rows : count ≤ maxPoints
+  pub rows-in : Below count row
+
+-- what no pass changes: how many segments are at each end of each point, and the next segment in the row of each
+pub record Prepared (row upper lower above below next : List ℕ) : Type 0 where
+  pub ends-above : Ends (length row) lower upper above
+  pub ends-below : Ends (length row) upper lower below
+  pub linked : Linked upper row next
+
+-- room for the start order, its positions and a copy of it
+pub record Roomy (row first order pos saved : List ℕ) : Type 0 where
+  pub rows-in : Below (rowsIn first) row
+  pub first-long : 0 < length first
+  pub order-long : length row ≤ length order
+  pub pos-long : length row ≤ length pos
+  pub few : length row ≤ countLimit
+  pub low : Below countLimit pos
+  pub same : length saved ≡ length order
+
+-- what a pass works on: some order in its lists, and room for sums, for a row and for a copy of the order
+pub record Passable (row first order pos totals moved saved : List ℕ) : Type 0 where
+  pub o : List (List ℕ)
+  pub laid : Laid row (rowsIn first) o order first pos
+  pub totals-long : length row ≤ length totals
+  pub moved-long : length row ≤ length moved
+  pub same : length saved ≡ length order
+
+-- An order in its lists, and the best so far with its crossings: the drawing of the chart is what is left of it, after `left` more
+-- passes, the next one in direction d.
+pub record Improving (row upper lower first : List ℕ) (left : ℕ) (d : Direction) (order pos saved : List ℕ) (fewest : ℕ) : Type 0 where
+  pub o : List (List ℕ)
+  pub best : List (List ℕ)
+  pub laid : Laid row (rowsIn first) o order first pos
+  pub same : length saved ≡ length order
+  pub best-flat : take (length row) saved ≡ flatten best
+  pub best-crossings : fewest ≡ crossings row (segmentsIn upper lower) best
+  pub rest : bestIn row upper lower first ≡ restFrom row (segmentsIn upper lower) best left d o
+
+-- A pass down and a pass up: however many passes were left, two fewer are.
+pub record Bettered (row upper lower first : List ℕ) (order pos saved : List ℕ) (fewest : ℕ) (order′ pos′ saved′ : List ℕ) (fewest′ : ℕ) : Type 0 where
+  pub steps : (left : ℕ) → Improving row upper lower first (suc (suc left)) downward order pos saved fewest
+      → Improving row upper lower first left downward order′ pos′ saved′ fewest′
+
+-- An order against the best so far: with as many crossings or more it is not kept, with fewer it takes the place of the best.
+pub data Keeping (order : List ℕ) (crossings : ℕ) (saved : List ℕ) (fewest : ℕ) (saved′ : List ℕ) (fewest′ : ℕ) : Type 0 where
+  kept : fewest ≤ crossings → fewest′ ≡ fewest → saved′ ≡ saved → Keeping order crossings saved fewest saved′ fewest′
+  replaced : crossings < fewest → fewest′ ≡ crossings → saved′ ≡ order → Keeping order crossings saved fewest saved′ fewest′
+
+-- a drawing in the first entries of a list, and its crossings
+pub record Held (d : Drawing) (order : List ℕ) (crossings : ℕ) : Type 0 where
+  pub order-is : take (length (flatten (d .order))) order ≡ flatten (d .order)
+  pub crossings-are : crossings ≡ d .crossings

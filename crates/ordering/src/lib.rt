@@ -1,0 +1,45 @@
+// The orderer: the whole chart of a table, its rows and the order of its points, in buffers that are lent.
+//
+// The call takes any input, ends, and has no condition. Its contract puts its answer and both buffers equal to what a definition of
+// specs/Calls.antt makes of the input, and says of the rows of an answer that they are the best and of its total that it is theirs.
+mod chart;
+mod crossings;
+mod draw;
+mod means;
+mod passes;
+mod points;
+mod start;
+mod store;
+
+use crate::chart::find_chart;
+use crate::store::hand_out_chart;
+use layering::types::Row;
+use table::types::Refusal;
+ghost use mathlib.Core.Path.{_≡_};
+ghost use Rattle.table.specs.Table.{read};
+ghost use Rattle.ordering.specs.Calls.{chartCall, chartAnswer, ChartBest};
+
+// The numbers that go with a chart: of its points, the total of its rows, and the crossings of its order.
+pub struct Figures {
+    pub points: usize,
+    pub total: usize,
+    pub crossings: usize,
+}
+
+// Rows and order are in the buffers, or why they are not.
+pub enum ChartAnswer {
+    Drawn(Figures),
+    Refused(Refusal),
+}
+
+// A table's chart: its rows to the first entries of one buffer, one a step, and the points in their order to those of the other, one
+// a point. Refuses as the rows call does, then too many points, then a buffer with fewer entries than it is to get.
+pub fn draw_chart(bytes: &[u8], rows: &mut [Row], order: &mut [u16]) -> ChartAnswer
+    ensures { λ r. ⌜ r ≡ chartAnswer (chartCall (now (bytes .entry)) (now (rows .entry)) (now (order .entry)) .answer) ⌝ }
+    ensures { λ _. ⌜ now (rows .exit) ≡ chartCall (now (bytes .entry)) (now (rows .entry)) (now (order .entry)) .rows ⌝ }
+    ensures { λ _. ⌜ now (order .exit) ≡ chartCall (now (bytes .entry)) (now (rows .entry)) (now (order .entry)) .order ⌝ }
+    ensures { λ r. ⌜ ChartBest (read (now (bytes .entry))) r (now (rows .exit)) ⌝ }
+{
+    let found = find_chart(bytes);
+    hand_out_chart(found, rows, order)
+}
