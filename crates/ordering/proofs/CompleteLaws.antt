@@ -6,7 +6,7 @@ use mathlib.Core.List.{List, [], _∷_, _++_, map, flatten}
 use Prim.Native.Nat.{ℕ, zero, suc, _+_, _-_, _≤_, _<_, suc-le-suc}
 use native.Mathlib.Nat.{not-suc-le-zero, le-of-suc-le-suc, zero-lt-suc}
 use native.Mathlib.Omega.{arith}
-use lib.Dec.{ltb}
+use lib.Dec.{ltb, eqb}
 use lib.ListN.{length, getD}
 use lib.Seq.{take-all, length-take-le}
 use Rattle.graph.specs.declared.Edge.{Edge}
@@ -17,6 +17,7 @@ use Rattle.ordering.specs.Means.{reorder}
 use Rattle.ordering.specs.Order.{Direction, downward, upward, turned, place, startOrder, endsAbove, endsBelow, settleRow, downFrom, upFrom, pass, results}
 use Rattle.ordering.specs.Crossings.{Drawing, drawn, fewest, passCount, bestOrder, drawingOf}
 use Rattle.ordering.specs.Flat.{Below}
+use Rattle.ordering.specs.Reordered.{occurs}
 use Rattle.ordering.specs.Starts.{starts}
 use Rattle.ordering.specs.Laid.{Ranked}
 use Rattle.ordering.proofs.EdgeLaws.{dummyRows}
@@ -147,7 +148,17 @@ module _ (ys : List ℕ) (edges : List Edge) where
       best-of (pointRows ys edges) (rowCount ys) (starts start-of) (segments ys edges) passCount downward start-of
       (drawn (pointRows ys edges) (segments ys edges) start-of) c c
 
-  -- it has as many entries as there are points
+  -- it has a list for each row, and in that list each point of the row once and nothing else
+  pub drawing-rows : length (drawingOf ys edges .order) ≡ rowCount ys
+  drawing-rows = complete .ranked .rows
+
+  pub drawing-once : (p r : ℕ) → p < length (pointRows ys edges) → occurs p (getD (drawingOf ys edges .order) r []) ≡ cond (eqb (at (pointRows ys edges) p) r) 1 0
+  drawing-once p r h = complete .ranked .once p r h
+
+  pub drawing-none : (p r : ℕ) → length (pointRows ys edges) ≤ p → occurs p (getD (drawingOf ys edges .order) r []) ≡ 0
+  drawing-none p r h = complete .ranked .none p r h
+
+  -- so it has as many entries as there are points
   pub drawing-count : length (flatten (drawingOf ys edges .order)) ≡ length (pointRows ys edges)
   drawing-count =
       let h = complete .ranked in
