@@ -31,3 +31,4 @@ pub mod ChartLaws
 pub mod HandLaws
 pub mod CallLaws
 pub mod FigureLaws
+pub mod SampleLaws
