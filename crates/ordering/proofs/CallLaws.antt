@@ -22,7 +22,7 @@ use Rattle.layering.specs.declared.types.RowsFound.{RowsFound}
 use Rattle.layering.specs.Calls.{rowsFound, rowsOfTable}
 use Rattle.layering.specs.Placed.{outcomeBy, contentsOf, TablePlaced}
 use Rattle.ordering.specs.declared.ChartAnswer.{ChartAnswer}
-use Rattle.ordering.specs.declared.chart.ChartFound.{ChartFound}
+use Rattle.ordering.specs.declared.types.ChartFound.{ChartFound}
 use Rattle.ordering.specs.Calls.{pointCount, unlessMany, chartOfTable, charted, chartOut, chartCall, chartAnswer, RowsBest, ChartBest}
 use Rattle.ordering.specs.Charting.{Solved, foundOf, unlessLarge, EdgesFound, TableFound, HandedOut}
 use Rattle.ordering.proofs.ChartLaws.{found-refused}

@@ -14,8 +14,8 @@ use Rattle.table.specs.declared.types.Refusal.the-variants.{ManyPoints}
 use Rattle.table.specs.declared.types.Verdict.the-variants.{Accepted, Refused}
 use Rattle.table.specs.Limits.{maxPoints}
 use Rattle.table.specs.Refusal.{Outcome, done, refused}
-use Rattle.ordering.specs.declared.chart.ChartFound.{ChartFound}
-use Rattle.ordering.specs.Points.{pointRows}
+use Rattle.ordering.specs.declared.types.ChartFound.{ChartFound}
+use Rattle.ordering.specs.Points.{pointRows, rowCount}
 use Rattle.ordering.specs.Crossings.{Drawing, drawingOf}
 use Rattle.ordering.specs.Laying.{edgesBetween, Chart}
 use Rattle.ordering.specs.Calls.{pointCount, Charted}
@@ -44,6 +44,7 @@ found-refused n edges what f {r} e w =
       handable = record { storable = λ a. absurd (clash a) };
       best = λ a. absurd (clash a);
       summed = λ a. absurd (clash a);
+      tall = λ a. absurd (clash a);
     }
   where
     clash : f .verdict ≡ Accepted → ⊥
@@ -108,10 +109,10 @@ module _ (n : ℕ) (edges : List Edge) (rows : List ℕ) (sum : ℕ) (s : Solved
       found-many h f e =
           found-refused n edges _ f e (simp (lt-leb (pointCount (take n rows) edges) maxPoints (omega (arith, count-is))))
 
-      pub found-drawn : points ≤ maxPoints
+      pub found-drawn : (height : ℕ) → height ≡ rowCount (take n rows) → points ≤ maxPoints
           → EdgesFound n edges (take n rows)
-          (record { verdict = Accepted; n = n; rows = rows; points = points; order = order; total = sum; crossings = crossings })
-      found-drawn h =
+          (record { verdict = Accepted; n = n; rows = rows; height = height; points = points; order = order; total = sum; crossings = crossings })
+      found-drawn height e h =
           let d = p .drawn h in
           record {
             says = says;
@@ -128,6 +129,7 @@ module _ (n : ℕ) (edges : List Edge) (rows : List ℕ) (sum : ℕ) (s : Solved
                 };
             best = λ a. s .best;
             summed = λ a. s .summed;
+            tall = λ a. e;
           }
         where
           all : length (flatten (drawingOf (take n rows) (edgesBetween from to) .order)) ≡ points

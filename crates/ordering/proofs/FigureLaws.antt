@@ -33,7 +33,7 @@ use Rattle.ordering.proofs.FewestLaws.{best-crossings}
 
 -- Each edge has one segment more than dummies, so there are fewer segments than points and edges together, and twice the crossings are
 -- at most the square of that number.
-crossings-low : (ys : List ℕ) (edges : List Edge) → length edges ≤ maxEdges → length (pointRows ys edges) ≤ maxPoints
+pub crossings-low : (ys : List ℕ) (edges : List Edge) → length edges ≤ maxEdges → length (pointRows ys edges) ≤ maxPoints
     → 2 * drawingOf ys edges .crossings ≤ (maxPoints + maxEdges) * (maxPoints + maxEdges)
 unfolding drawingOf segments
 crossings-low ys edges m p =
@@ -49,7 +49,7 @@ crossings-low ys edges m p =
     )
 
 -- a total of small weights over heads in low rows
-total-low : (edges : List Edge) (y : ℕ → ℕ) (w t : ℕ) → ((i : ℕ) → i < length edges → (getD edges i noEdge .weight ≤ w) × (y (getD edges i noEdge .to) ≤ t))
+pub total-low : (edges : List Edge) (y : ℕ → ℕ) (w t : ℕ) → ((i : ℕ) → i < length edges → (getD edges i noEdge .weight ≤ w) × (y (getD edges i noEdge .to) ≤ t))
     → total edges y ≤ length edges * (w * t)
 unfolding total
 total-low [] y w t h = omega arith

@@ -18,7 +18,7 @@ use Rattle.table.specs.Refusal.{Outcome, done, refused}
 use Rattle.layering.specs.Placed.{outcomeBy}
 use Rattle.ordering.specs.declared.ChartAnswer.{ChartAnswer}
 use Rattle.ordering.specs.declared.ChartAnswer.the-variants.{Drawn, Refused}
-use Rattle.ordering.specs.declared.chart.ChartFound.{ChartFound}
+use Rattle.ordering.specs.declared.types.ChartFound.{ChartFound}
 use Rattle.ordering.specs.Calls.{Charted, ChartEnd, filled, chartEnd, chartAnswer, RowsBest}
 use Rattle.ordering.specs.Charting.{chartedBy, foundOf, Handable, Found, HandedOut}
 

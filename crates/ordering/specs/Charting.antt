@@ -14,8 +14,8 @@ use Rattle.table.specs.Table.{read}
 use Rattle.layering.specs.Placed.{outcomeBy, topRow, FairEdges, contentsOf}
 use Rattle.ordering.specs.declared.Figures.{Figures}
 use Rattle.ordering.specs.declared.ChartAnswer.{ChartAnswer}
-use Rattle.ordering.specs.declared.chart.ChartFound.{ChartFound}
-use Rattle.ordering.specs.Points.{pointRows}
+use Rattle.ordering.specs.declared.types.ChartFound.{ChartFound}
+use Rattle.ordering.specs.Points.{pointRows, rowCount}
 use Rattle.ordering.specs.Crossings.{drawingOf}
 use Rattle.ordering.specs.Flat.{Below}
 use Rattle.ordering.specs.Laying.{edgesBetween, Chart}
@@ -71,12 +71,14 @@ pub record Storable (f : ChartFound) : Type 0 where
 pub record Handable (f : ChartFound) : Type 0 where
   pub storable : f .verdict ≡ Accepted → Storable f
 
--- an outcome in arrays: where it is not refused, it can be handed out, its rows are the best of the edges, and its total is theirs
+-- an outcome in arrays: where it is not refused, it can be handed out, its rows are the best of the edges, and
+-- its total and its height are theirs
 pub record Found (n : ℕ) (edges : List Edge) (what : Outcome Charted) (f : ChartFound) : Type 0 where
   pub says : foundOf f ≡ what
   pub handable : Handable f
   pub best : f .verdict ≡ Accepted → Best n edges (take (f .n) (f .rows))
   pub summed : f .verdict ≡ Accepted → f .total ≡ total edges (at (take (f .n) (f .rows)))
+  pub tall : f .verdict ≡ Accepted → f .height ≡ rowCount (take (f .n) (f .rows))
 
 -- the chart of edges in their rows: refused where it has too many points
 abbrev pub unlessLarge : List ℕ → List Edge → Outcome Charted

@@ -1,8 +1,9 @@
-// The chart of a table: its rows and the order of its points, or why there is none.
+// The chart of edges in their best rows: the order of its points, or why there is none.
 use crate::draw::draw_points;
 use crate::points::count_points;
+use crate::start::count_rows;
+use crate::types::ChartFound;
 use graph::Edge;
-use layering::place_table;
 use table::limits::MAX_EDGES;
 use table::limits::MAX_POINTS;
 use table::limits::MAX_STEPS;
@@ -12,7 +13,7 @@ ghost use mathlib.Core.Path.{_≡_};
 ghost use Prim.Native.Nat.{_≤_};
 ghost use lib.ListN.{length, take};
 ghost use Rattle.table.specs.Limits.{maxEdges};
-ghost use Rattle.ordering.specs.Charting.{Split, Sizable, PointsAre, Solved, EdgesFound, TableFound};
+ghost use Rattle.ordering.specs.Charting.{Split, Sizable, PointsAre, Solved, EdgesFound};
 
 // The ends of edges, one array an end.
 pub struct EdgeEnds {
@@ -27,43 +28,15 @@ pub struct PointsDrawn {
     pub crossings: usize,
 }
 
-// The first n rows, the points in their order, and the numbers that go with them; or why there are none.
-pub struct ChartFound {
-    pub verdict: Verdict,
-    pub n: usize,
-    pub rows: [usize; MAX_STEPS],
-    pub points: usize,
-    pub order: [usize; MAX_POINTS],
-    pub total: usize,
-    pub crossings: usize,
-}
-
-// The chart of the table that the bytes write down.
-pub fn find_chart(bytes: &[u8]) -> ChartFound
-    ensures { λ r. ⌜ TableFound (now (bytes .entry)) r ⌝ }
-{
-    let placed = place_table(bytes);
-    let found = placed.found;
-    let verdict = found.verdict;
-    match verdict {
-        Verdict::Refused(f) => refuse_chart(f),
-        Verdict::Accepted => {
-            let table = placed.table;
-            let edges = table.edges;
-            let rows = found.rows;
-            draw_edges(edges, table.m, table.n, rows, found.total)
-        }
-    }
-}
-
 // A refusal, with no chart.
-fn refuse_chart(f: Refusal) -> ChartFound
+pub fn refuse_chart(f: Refusal) -> ChartFound
     ensures { λ r. ⌜ r .verdict ≡ Verdict.Refused f ⌝ }
 {
     ChartFound {
         verdict: Verdict::Refused(f),
         n: 0,
         rows: [0; MAX_STEPS],
+        height: 0,
         points: 0,
         order: [0; MAX_POINTS],
         total: 0,
@@ -72,7 +45,7 @@ fn refuse_chart(f: Refusal) -> ChartFound
 }
 
 // The chart of the first m edges of an array, between n steps in their best rows.
-fn draw_edges(
+pub fn draw_edges(
     edges: [Edge; MAX_EDGES],
     m: usize,
     n: usize,
@@ -90,11 +63,13 @@ fn draw_edges(
     if MAX_POINTS < drawn.points {
         return refuse_chart(Refusal::ManyPoints);
     }
+    let height = count_rows(&rows[..n]);
     let order = drawn.order;
     ChartFound {
         verdict: Verdict::Accepted,
         n: n,
         rows: rows,
+        height: height,
         points: drawn.points,
         order: order,
         total: total,

@@ -10,14 +10,21 @@ mod passes;
 mod points;
 mod start;
 mod store;
+pub mod types;
 
-use crate::chart::find_chart;
+use crate::chart::draw_edges;
+use crate::chart::refuse_chart;
 use crate::store::hand_out_chart;
+use crate::types::TableChart;
+use layering::place_table;
 use layering::types::Row;
 use table::types::Refusal;
+use table::types::Verdict;
 ghost use mathlib.Core.Path.{_≡_};
 ghost use Rattle.table.specs.Table.{read};
+ghost use Rattle.table.specs.Calls.{tableRead};
 ghost use Rattle.ordering.specs.Calls.{chartCall, chartAnswer, ChartBest};
+ghost use Rattle.ordering.specs.Charting.{TableFound};
 
 // The numbers that go with a chart: of its points, the total of its rows, and the crossings of its order.
 pub struct Figures {
@@ -40,6 +47,32 @@ pub fn draw_chart(bytes: &[u8], rows: &mut [Row], order: &mut [u16]) -> ChartAns
     ensures { λ _. ⌜ now (order .exit) ≡ chartCall (now (bytes .entry)) (now (rows .entry)) (now (order .entry)) .order ⌝ }
     ensures { λ r. ⌜ ChartBest (read (now (bytes .entry))) r (now (rows .exit)) ⌝ }
 {
-    let found = find_chart(bytes);
+    let charted = chart_table(bytes);
+    let found = charted.found;
     hand_out_chart(found, rows, order)
+}
+
+// The table that the bytes write down, with its chart: what a layer above builds on.
+pub fn chart_table(bytes: &[u8]) -> TableChart
+    ensures { λ r. ⌜ r .table ≡ tableRead (read (now (bytes .entry))) .table ⌝ }
+    ensures { λ r. ⌜ TableFound (now (bytes .entry)) (r .found) ⌝ }
+{
+    let placed = place_table(bytes);
+    let table = placed.table;
+    let found = placed.found;
+    let verdict = found.verdict;
+    match verdict {
+        Verdict::Refused(f) => TableChart {
+            table: table,
+            found: refuse_chart(f),
+        },
+        Verdict::Accepted => {
+            let edges = table.edges;
+            let rows = found.rows;
+            TableChart {
+                table: table,
+                found: draw_edges(edges, table.m, table.n, rows, found.total),
+            }
+        }
+    }
 }

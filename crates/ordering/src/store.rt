@@ -1,7 +1,7 @@
 // A chart handed out: an outcome becomes an answer and the content of two lent buffers.
 use crate::ChartAnswer;
 use crate::Figures;
-use crate::chart::ChartFound;
+use crate::types::ChartFound;
 use layering::types::Row;
 use table::types::Refusal;
 use table::types::Verdict;

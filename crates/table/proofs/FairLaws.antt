@@ -18,7 +18,7 @@ use Rattle.table.specs.Refusal.{done}
 use Rattle.table.specs.Number.{Read, got, fault, andThen, judge, byteAt, numberAt, numberIn, many, counted}
 use Rattle.table.specs.Table.{adjustAt, waitAt, kindAt, nameByteAt, nameAt, namedAt, stepAt, endAt, edgeBetween, edgeAt, stepsAt, edgesAt, listsAt, tableAt, outcome, read, Contents}
 use Rattle.table.specs.Calls.{noStep}
-use Rattle.table.specs.Fair.{FairStep, FairEdge, Fair}
+use Rattle.table.specs.Fair.{KindLow, FairStep, FairEdge, Fair}
 use Rattle.table.proofs.NumberLaws.{in-limits}
 use Rattle.table.proofs.InverseLaws.{never, came, passed, both, got-value, got-place, many-length, many-each, many-width}
 use Rattle.table.proofs.PlaceLaws.{byte-place, number-place, limits-place}
@@ -26,7 +26,7 @@ use Rattle.table.proofs.PlaceLaws.{byte-place, number-place, limits-pla
 -- ---- steps
 
 -- a kind takes at most six bytes
-kind-place : (s : List ℕ) (at : ℕ) {k : Kind} {p : ℕ} → kindAt s at ≡ got k p → p ≤ at + 6
+pub kind-place : (s : List ℕ) (at : ℕ) {k : Kind} {p : ℕ} → kindAt s at ≡ got k p → p ≤ at + 6
 unfolding kindAt adjustAt waitAt
 kind-place s at {k} {p} e =
     let c = came (numberIn 0 maxKind BadKind s at) _ e in
@@ -42,6 +42,24 @@ kind-place s at {k} {p} e =
     go false false q h e =
         let c = came (numberIn minMinutes maxMinutes OutOfRange s q) _ e in
         omega (arith, got-place (c .next), limits-place minMinutes maxMinutes OutOfRange s q (c .first))
+
+-- the number that it carries was read within its limit
+kind-low : (s : List ℕ) (at : ℕ) {k : Kind} {p : ℕ} → kindAt s at ≡ got k p → KindLow k
+unfolding kindAt adjustAt waitAt
+kind-low s at {k} {p} e =
+    let c = came (numberIn 0 maxKind BadKind s at) _ e in
+    go (eqb (c .value) 0) (eqb (c .value) 1) (c .place) (c .next)
+  where
+    go : (t u : Bool) (q : ℕ)
+        → cond t (got Check q) (cond u (andThen (numberIn 0 maxTolerance OutOfRange s q) λ t p. got (Adjust t) p) (andThen (numberIn minMinutes maxMinutes OutOfRange s q) λ m p. got (Wait m) p)) ≡ got k p
+        → KindLow k
+    go true u q e = subst KindLow (got-value e) tt
+    go false true q e =
+        let c = came (numberIn 0 maxTolerance OutOfRange s q) _ e in
+        subst KindLow (got-value (c .next)) (in-limits 0 maxTolerance OutOfRange s q (c .first) .1)
+    go false false q e =
+        let c = came (numberIn minMinutes maxMinutes OutOfRange s q) _ e in
+        subst KindLow (got-value (c .next)) (in-limits minMinutes maxMinutes OutOfRange s q (c .first) .1)
 
 -- name bytes stand one behind the other, within the table
 name-bytes : (s : List ℕ) (k at : ℕ) {l : List ℕ} {e : ℕ} → at ≤ length s → many (nameByteAt s) k at ≡ got l e → (length l ≡ k) × (e ≡ at + k) × (e ≤ length s)
@@ -69,7 +87,7 @@ name-place s k at {len} {e} h g = go (many (nameByteAt s) k at) refl g
     go (fault r) f g = never g
 
 -- a step takes at most 25 bytes
-step-fair : (s : List ℕ) (at : ℕ) {st : Step} {p : ℕ} → stepAt s at ≡ got st p → FairStep s st × (p ≤ at + 25)
+pub step-fair : (s : List ℕ) (at : ℕ) {st : Step} {p : ℕ} → stepAt s at ≡ got st p → FairStep s st × (p ≤ at + 25)
 unfolding stepAt namedAt
 step-fair s at {st} {p} e =
     let k = came (kindAt s at) _ e in
@@ -81,13 +99,13 @@ step-fair s at {st} {p} e =
     let kind = kind-place s at (k .first) in
     let q = got-place (n .next) in (
       subst (FairStep s) (got-value (n .next))
-          (record { some = omega arith; short = omega arith; inside = omega arith }),
+          (record { some = omega arith; short = omega arith; inside = omega arith; kind-low = kind-low s at (k .first) }),
       omega arith,
     )
 
 -- ---- edges
 
-end-fair : (s : List ℕ) (n but at : ℕ) {v p : ℕ} → endAt s n but at ≡ got v p → (v < n) × (v ≡ but → ⊥) × (p ≤ at + 3)
+pub end-fair : (s : List ℕ) (n but at : ℕ) {v p : ℕ} → endAt s n but at ≡ got v p → (v < n) × (v ≡ but → ⊥) × (p ≤ at + 3)
 unfolding endAt
 end-fair s n but at {v} {p} e =
     let c = came (numberAt s at) _ e in
@@ -105,7 +123,7 @@ end-fair s n but at {v} {p} e =
     apart x false e f h = eqb-false x but e h
 
 -- an edge takes at most 12 bytes
-edge-fair : (s : List ℕ) (n at : ℕ) {x : Edge} {p : ℕ} → edgeAt s n at ≡ got x p → FairEdge n x × (p ≤ at + 12)
+pub edge-fair : (s : List ℕ) (n at : ℕ) {x : Edge} {p : ℕ} → edgeAt s n at ≡ got x p → FairEdge n x × (p ≤ at + 12)
 unfolding edgeAt edgeBetween
 edge-fair s n at {x} {p} e =
     let a = came (endAt s n n at) _ e in

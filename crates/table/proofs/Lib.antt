@@ -9,4 +9,5 @@ pub mod FairLaws
 pub mod AnswerLaws
 pub mod StarredLaws
 pub mod RangeLaws
+pub mod PrefixLaws
 pub mod CallLaws

@@ -1,5 +1,5 @@
 -- The limits of document 01, each named once for the definitions; `src/limits.rt` names the same numbers for the code.
-use Prim.Native.Nat.{ℕ}
+use Prim.Native.Nat.{ℕ, _+_, _*_}
 
 -- the edition that a table says it has
 abbrev pub edition : ℕ
@@ -49,9 +49,25 @@ maxGap = 4
 abbrev pub maxWeight : ℕ
 maxWeight = 255
 
--- no accepted table is longer
+-- bytes in a number, at most
+abbrev pub numberBytes : ℕ
+numberBytes = 3
+
+-- bytes in a step, at most: its kind, what the kind adds, the length of its name, and the name
+abbrev pub stepBytes : ℕ
+stepBytes = 3 * numberBytes + maxName
+
+-- bytes in an edge, at most: its ends, its gap and its weight
+abbrev pub edgeBytes : ℕ
+edgeBytes = 4 * numberBytes
+
+-- no accepted table is longer: the edition, the count of steps and the steps, the count of edges and the edges
 abbrev pub maxTable : ℕ
-maxTable = 3913
+maxTable = numberBytes + numberBytes + maxSteps * stepBytes + numberBytes + maxEdges * edgeBytes
+
+-- what a program takes from standard input: more than any accepted table has
+abbrev pub maxInput : ℕ
+maxInput = 8192
 
 -- steps and dummies of a chart (document 01: points)
 abbrev pub maxPoints : ℕ

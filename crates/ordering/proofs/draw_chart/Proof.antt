@@ -4,11 +4,11 @@ use borrow.Author.Needs.{needs}
 use Rattle.ordering.proofs.draw_chart.Statement.{statement}
 use Rattle.ordering.proofs.draw_chart.Tie as tie
 
-find-chart-requires : tie.Need-find-chart-requires
-find-chart-requires c κs = search needs
+chart-table-requires : tie.Need-chart-table-requires
+chart-table-requires c κs = search needs
 
 hand-out-chart-requires : tie.Need-hand-out-chart-requires
-hand-out-chart-requires c κs = c .before .before .find-chart .ensures .handable
+hand-out-chart-requires c κs = c .before .before .before .chart-table .ensures .1 .handable
 
 same-length : tie.Need-same-length
 same-length c = search needs
@@ -17,9 +17,9 @@ same-length-2 : tie.Need-same-length-2
 same-length-2 c = search needs
 
 returns : tie.Need-returns
-returns c = chart-call _ _ _ _ _ _ _ (c .before .before .before .before .before .before .before .find-chart .ensures) (c .before .before .before .before .hand-out-chart .ensures)
+returns c = chart-call _ _ _ _ _ _ _ (c .before .before .before .before .before .before .before .before .chart-table .ensures .1) (c .before .before .before .before .hand-out-chart .ensures)
 
 pub draw-chart-spec : {M : Type 1} → statement M
 draw-chart-spec =
     tie.close
-    (tie.spec find-chart-requires hand-out-chart-requires same-length same-length-2 returns)
+    (tie.spec chart-table-requires hand-out-chart-requires same-length same-length-2 returns)

@@ -35,8 +35,17 @@ refuse-chart-requires c κs = search needs
 returns : tie.Need-returns
 returns c = let f = c .before .before .before .before .before .before .before .before .before .split-ends .ensures in found-many _ _ _ _ (c .before .before .before .before .before .before .before .before .before .before .pre .0) _ _ (f .tails) (f .heads) _ _ _ (c .before .before .before .draw-ends .ensures) (c .before .if1 .taken) _ (c .refuse-chart .ensures)
 
+array-share-prefix-rows-2 : tie.Need-array-share-prefix-rows-2
+array-share-prefix-rows-2 c = search needs
+
+slice-aggregate-count-rows : tie.Need-slice-aggregate-count-rows
+slice-aggregate-count-rows c = search needs
+
+count-rows-requires : tie.Need-count-rows-requires
+count-rows-requires c κs = let f = c .before .before .before .before .before .before .before .before .before .split-ends .ensures in sizable _ _ _ _ (c .before .before .before .before .before .before .before .before .before .before .pre .0) _ _ (f .tails) (f .heads) .chart .few-rows
+
 returns-2 : tie.Need-returns-2
-returns-2 c = let f = c .before .before .before .before .before .before .before .before .before .split-ends .ensures in found-drawn _ _ _ _ (c .before .before .before .before .before .before .before .before .before .before .pre .0) _ _ (f .tails) (f .heads) _ _ _ (c .before .before .before .draw-ends .ensures) (c .before .if1 .left)
+returns-2 c = let f = c .before .before .before .before .before .before .before .before .before .before .before .split-ends .ensures in found-drawn _ _ _ _ (c .before .before .before .before .before .before .before .before .before .before .before .before .pre .0) _ _ (f .tails) (f .heads) _ _ _ (c .before .before .before .before .before .draw-ends .ensures) _ (c .before .count-rows .ensures) (c .before .before .before .if1 .left)
 
 pub draw-edges-spec : {M : Type 1} → statement M
 draw-edges-spec =
@@ -52,4 +61,7 @@ draw-edges-spec =
     draw-ends-requires
     refuse-chart-requires
     returns
+    array-share-prefix-rows-2
+    slice-aggregate-count-rows
+    count-rows-requires
     returns-2)

@@ -1,0 +1,162 @@
+-- A table with its chart, as the code hands it on in arrays and numbers, and what the definitions say of them.
+use mathlib.Core.Path.{_≡_, refl, sym, ap, _∙_, subst}
+use mathlib.Core.Bool.{Bool, true, false}
+use mathlib.Core.List.{List, flatten}
+use Prim.Native.Nat.{ℕ, _-_, _≤_}
+use native.Mathlib.Omega.{arith}
+use borrow.Author.Tests.{leb-true}
+use lib.Dec.{leb}
+use lib.ListN.{length, take, length-append, length-replicate}
+use lib.Seq.{take-append-seam, length-take-le}
+use Rattle.graph.specs.Rows.{at, noEdge, total, Best}
+use Rattle.table.specs.declared.types.Refusal.{Refusal}
+use Rattle.table.specs.declared.types.Refusal.the-variants.{ManyPoints}
+use Rattle.table.specs.declared.types.Table.{Table}
+use Rattle.table.specs.declared.types.Verdict.the-variants.{Accepted}
+use Rattle.table.specs.Limits.{maxSteps, maxEdges, maxPoints}
+use Rattle.table.specs.Refusal.{Outcome, done, refused, thenDo, demand}
+use Rattle.table.specs.Table.{Contents, read}
+use Rattle.table.specs.Calls.{noStep, padded, tableRead}
+use Rattle.table.proofs.FairLaws.{read-fair}
+use Rattle.layering.specs.Calls.{rowsFound}
+use Rattle.layering.specs.Placed.{outcomeBy, contentsOf}
+use Rattle.ordering.specs.declared.Figures.{Figures}
+use Rattle.ordering.specs.declared.types.ChartFound.{ChartFound}
+use Rattle.ordering.specs.Points.{rowCount}
+use Rattle.ordering.specs.Crossings.{drawingOf}
+use Rattle.ordering.specs.Calls.{Placing, pointCount, unlessMany, chartOfTable, Charted, charted, chartOut}
+use Rattle.ordering.specs.Charting.{chartedBy, TableFound}
+
+-- What the arrays and numbers of an accepted table hold: its steps and edges, its rows, and their drawing.
+pub record Opened (bytes : List ℕ) (table : Table) (f : ChartFound) : Type 0 where
+  pub placing : Placing
+  pub is : chartOfTable bytes ≡ done placing
+  pub said : read bytes ≡ done (placing .contents)
+  pub n-is : table .n ≡ length (placing .contents .steps)
+  pub f-n : f .n ≡ table .n
+  pub steps-are : table .steps ≡ padded maxSteps noStep (placing .contents .steps)
+  pub m-is : table .m ≡ length (placing .contents .edges)
+  pub edges-are : take (table .m) (table .edges) ≡ placing .contents .edges
+  pub edges-long : length (table .edges) ≡ maxEdges
+  pub rows-are : take (f .n) (f .rows) ≡ placing .rows
+  pub best : Best (length (placing .contents .steps)) (placing .contents .edges) (placing .rows)
+  pub height-is : f .height ≡ rowCount (placing .rows)
+  pub order-is : take (f .points) (f .order) ≡ flatten (drawingOf (placing .rows) (placing .contents .edges) .order)
+  pub points-are : f .points ≡ pointCount (placing .rows) (placing .contents .edges)
+  pub few-points : f .points ≤ maxPoints
+  pub total-is : f .total ≡ total (placing .contents .edges) (at (placing .rows))
+  pub crossings-are : f .crossings ≡ drawingOf (placing .rows) (placing .contents .edges) .crossings
+
+-- ---- the placing
+
+-- an outcome that is not refused has a placing, with few points
+record Found (bytes : List ℕ) (c : Charted) : Type 0 where
+  placing : Placing
+  is : chartOfTable bytes ≡ done placing
+  said : read bytes ≡ done (placing .contents)
+  few : pointCount (placing .rows) (placing .contents .edges) ≤ maxPoints
+  holds : c ≡ charted (placing .rows) (placing .contents .edges)
+
+never : {X : Type 0} {c : Charted} {r : Refusal} → _≡_ {A = Outcome Charted} (done c) (refused r) → X
+never e = let z : _≡_ {A = ℕ} 0 1 = cc in absurd (omega arith)
+
+module _ (bytes : List ℕ) (c : Charted) where
+  abbrev rest : Contents → Outcome Placing
+  rest t = thenDo (rowsFound (length (t .steps)) (t .edges)) λ rows. unlessMany t rows
+
+  found-of : done c ≡ chartOut (chartOfTable bytes) → Found bytes c
+  unfolding chartOfTable
+  found-of = go (read bytes) refl
+    where
+      many : (t : Contents) (ys : List ℕ) (b : Bool) → read bytes ≡ done t → rowsFound (length (t .steps)) (t .edges) ≡ done ys
+          → leb (pointCount ys (t .edges)) maxPoints ≡ b
+          → done c ≡ chartOut (demand b ManyPoints (done (record { contents = t; rows = ys }))) → Found bytes c
+      many t ys true r s p e =
+          record {
+            placing = record { contents = t; rows = ys };
+            is = rw (r, s, p);
+            said = r;
+            few = leb-true _ _ p;
+            holds = cc;
+          }
+      many t ys false r s p e = never e
+
+      found : (t : Contents) (o : Outcome (List ℕ)) → read bytes ≡ done t → rowsFound (length (t .steps)) (t .edges) ≡ o
+          → done c ≡ chartOut (thenDo o (λ ys. unlessMany t ys)) → Found bytes c
+      found t (done ys) r s e = many t ys (leb (pointCount ys (t .edges)) maxPoints) r s refl e
+      found t (refused g) r s e = never e
+
+      go : (o : Outcome Contents) → read bytes ≡ o → done c ≡ chartOut (thenDo o rest) → Found bytes c
+      go (done t) r e = found t (rowsFound (length (t .steps)) (t .edges)) r refl e
+      go (refused g) r e = never e
+
+-- ---- the arrays and numbers
+
+module _ (bytes : List ℕ) (table : Table) (f : ChartFound) (same : table ≡ tableRead (read bytes) .table) (h : TableFound bytes f)
+    (a : f .verdict ≡ Accepted) where
+  found : Found bytes (chartedBy f)
+  found = found-of bytes (chartedBy f) (sym (ap (λ u. outcomeBy u (chartedBy f)) a) ∙ h .says)
+
+  abbrev t : Contents
+  t = found .placing .contents
+
+  abbrev ys : List ℕ
+  ys = found .placing .rows
+
+  whole : table ≡ tableRead (done t) .table
+  whole = same ∙ ap (λ o. tableRead o .table) (found .said)
+
+  edge-list : table .edges ≡ padded maxEdges noEdge (t .edges)
+  edge-list = ap (λ (x : Table). x .edges) whole
+
+  edge-count : table .m ≡ length (t .edges)
+  edge-count = ap (λ (x : Table). x .m) whole
+
+  edges-taken : take (table .m) (table .edges) ≡ t .edges
+  unfolding padded
+  edges-taken = ap (λ k. take k (table .edges)) edge-count ∙ ap (take (length (t .edges))) edge-list ∙ take-append-seam (t .edges) _
+
+  array-long : length (table .edges) ≡ maxEdges
+  unfolding padded
+  array-long =
+      ap length edge-list ∙ length-append (t .edges) _
+      ∙ rw (length-replicate (maxEdges - length (t .edges)) noEdge) (omega (arith, read-fair bytes (found .said) .few-edges))
+
+  rows-taken : take (f .n) (f .rows) ≡ ys
+  rows-taken = ap (λ (c : Charted). c .rows) (found .holds)
+
+  rows-best : Best (length (t .steps)) (t .edges) ys
+  rows-best =
+      subst (λ l. Best (length (t .steps)) (t .edges) l) rows-taken
+      (subst (λ o. Best (length (contentsOf o .steps)) (contentsOf o .edges) (take (f .n) (f .rows))) (found .said) (h .best a))
+
+  node-count : f .n ≡ length (t .steps)
+  node-count = sym (length-take-le (f .n) (f .rows) (h .handable .storable a .few-rows)) ∙ ap length rows-taken ∙ rows-best .one-a-node
+
+  figures-are : chartedBy f .figures ≡ charted ys (t .edges) .figures
+  figures-are = ap (λ (c : Charted). c .figures) (found .holds)
+
+  points-counted : f .points ≡ pointCount ys (t .edges)
+  points-counted = ap (λ (g : Figures). g .points) figures-are
+
+  pub opened : Opened bytes table f
+  opened =
+      record {
+        placing = found .placing;
+        is = found .is;
+        said = found .said;
+        n-is = ap (λ (x : Table). x .n) whole;
+        f-n = node-count ∙ sym (ap (λ (x : Table). x .n) whole);
+        steps-are = ap (λ (x : Table). x .steps) whole;
+        m-is = edge-count;
+        edges-are = edges-taken;
+        edges-long = array-long;
+        rows-are = rows-taken;
+        best = rows-best;
+        height-is = h .tall a ∙ ap rowCount rows-taken;
+        order-is = ap (λ (c : Charted). c .order) (found .holds);
+        points-are = points-counted;
+        few-points = omega (arith, points-counted, found .few);
+        total-is = ap (λ (g : Figures). g .total) figures-are;
+        crossings-are = ap (λ (g : Figures). g .crossings) figures-are;
+      }

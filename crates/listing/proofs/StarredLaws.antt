@@ -1,0 +1,23 @@
+-- The starred cases of document 01, all of them, computed from the definitions.
+use mathlib.Core.Path.{_≡_, refl}
+use mathlib.Core.List.{map}
+use Rattle.graph.specs.Rows.{total}
+use Rattle.graph.specs.Search.{run, keepsOne, keeps, sieve, extend, placements, lightest, firstLightest, widest, rowsOf}
+use Rattle.table.specs.Number.{byteAt, numberAt, numberIn, many}
+use Rattle.table.specs.Table.{adjustAt, waitAt, kindAt, nameByteAt, nameAt, namedAt, stepAt, endAt, edgeBetween, edgeAt, stepsAt, edgesAt, listsAt, tableAt, read}
+use Rattle.table.specs.Starred.{Case}
+use Rattle.layering.specs.Loops.{mark, sweep, sweeps, reached, onLoop, firstFrom, lowestOnLoop}
+use Rattle.layering.specs.Calls.{rowsFound}
+use Rattle.ordering.specs.Points.{dummies, pointRows, chain, segmentsFrom, segments, rowCount}
+use Rattle.ordering.specs.Means.{sum, meanOf, insert, sortOnto, moving, fill, reorder}
+use Rattle.ordering.specs.Order.{pointsIn, startOrder, position, place, ends, settleRow, downFrom, upFrom, results}
+use Rattle.ordering.specs.Crossings.{crossingsWith, crossingPairs, crossings, drawn, fewest, bestOrder, drawingOf}
+use Rattle.ordering.specs.Calls.{chartOfTable}
+use Rattle.listing.specs.Text.{digits}
+use Rattle.listing.specs.Listing.{blanked, rowLines, chartText, listing}
+use Rattle.listing.specs.Starred.{starred}
+
+-- each case prints what it says
+pub starred-hold : map (λ (c : Case). listing (c .input)) starred ≡ map (λ (c : Case). c .told) starred
+unfolding total run keepsOne keeps sieve extend placements lightest firstLightest widest rowsOf byteAt numberAt numberIn many adjustAt waitAt kindAt nameByteAt nameAt namedAt stepAt endAt edgeBetween edgeAt stepsAt edgesAt listsAt tableAt read mark sweep sweeps reached onLoop firstFrom lowestOnLoop rowsFound dummies pointRows chain segmentsFrom segments rowCount sum meanOf insert sortOnto moving fill reorder pointsIn startOrder position place ends settleRow downFrom upFrom results crossingsWith crossingPairs crossings drawn fewest bestOrder drawingOf chartOfTable digits blanked rowLines chartText listing
+starred-hold = refl

@@ -1,0 +1,288 @@
+-- No listing is longer than `maxListing`: each number has few digits, each point a short text, and rows and points are few.
+use mathlib.Core.Path.{_≡_, refl, sym, subst}
+use mathlib.Core.Bool.{Bool, true, false, cond}
+use mathlib.Core.List.{List, [], _∷_, _++_, map, flatten}
+use mathlib.Core.Option.{Option, none, some}
+use Prim.Native.Nat.{ℕ, zero, suc, _+_, _*_, _-_, _≤_, _<_, zero-le}
+use native.Mathlib.Nat.{mul-le-mul-right, add-mul}
+use native.Mathlib.Omega.{arith}
+use borrow.Author.Tests.{ltb-true, leb-true}
+use lib.Dec.{ltb, leb}
+use lib.ListN.{length, getD, take, drop, length-append, length-take}
+use Rattle.graph.specs.declared.Edge.{Edge}
+use Rattle.graph.specs.Rows.{at, noEdge, total, Within}
+use Rattle.graph.specs.Search.{run, rowsOf}
+use Rattle.table.specs.declared.types.Kind.{Kind}
+use Rattle.table.specs.declared.types.Kind.the-variants.{Check, Adjust, Wait}
+use Rattle.table.specs.declared.types.Refusal.{Refusal}
+use Rattle.table.specs.declared.types.Refusal.the-variants.{Cut, Overlong, BadEdition, ManySteps, BadKind, OutOfRange, BadNameByte, ManyEdges, BadEnd, Spare, Loop, ManyPoints, ShortBuffer, NoStep}
+use Rattle.table.specs.declared.types.Step.{Step}
+use Rattle.table.specs.Limits.{maxSteps, maxEdges, maxWeight, maxPoints}
+use Rattle.table.specs.Refusal.{Outcome, done, refused, thenDo, demand, numbersOf}
+use Rattle.table.specs.Table.{Contents, read}
+use Rattle.table.specs.Calls.{noStep}
+use Rattle.table.specs.Fair.{KindLow, FairStep, Fair}
+use Rattle.table.proofs.FairLaws.{read-fair}
+use Rattle.table.proofs.RangeLaws.{read-range}
+use Rattle.table.proofs.CallLaws.{alone}
+use Rattle.layering.specs.Loops.{lowestOnLoop}
+use Rattle.layering.specs.Calls.{unlessLoop, rowsFound}
+use Rattle.layering.specs.Placed.{topRow}
+use Rattle.layering.proofs.LoopLaws.{lowest-iff}
+use Rattle.ordering.specs.Points.{Dummy, between, dummies, rowCount}
+use Rattle.ordering.specs.Crossings.{Drawing, drawingOf}
+use Rattle.ordering.specs.Calls.{Placing, pointCount, unlessMany, chartOfTable}
+use Rattle.ordering.proofs.CompleteLaws.{drawing-rows, drawing-count}
+use Rattle.ordering.proofs.FigureLaws.{crossings-low, total-low}
+use Rattle.listing.specs.Text.{text, newline, decimal}
+use Rattle.listing.specs.Listing.{blanked, line, kindText, stepText, dummyText, noDummy, pointText, headText, rowLines, chartText, refusalText, outcomeText, listing}
+use Rattle.listing.specs.Widths.{headBytes, rowBytes, pointBytes, maxListing}
+use Rattle.listing.proofs.DecimalLaws.{tens, decimal-short}
+use Rattle.listing.proofs.HeightLaws.{found-low, count-low}
+
+-- ---- lines
+
+-- fields of at most w bytes, a blank in front of each included
+fields-short : (w : ℕ) (show : ℕ → List ℕ) → ((p : ℕ) → length (show p) < w) → (row : List ℕ) → length (blanked (map show row)) ≤ length row * w
+unfolding blanked
+fields-short w show h [] = omega arith
+fields-short w show h (p ∷ row) = rw (length-append (show p) (blanked (map show row))) (omega (arith, h p, fields-short w show h row))
+
+line-length : (first : List ℕ) (rest : List (List ℕ)) → length (line first rest) ≡ length first + length (blanked rest) + 1
+line-length first rest = rw (length-append (first ++ blanked rest) (newline ∷ []), length-append first (blanked rest))
+
+-- rows whose numbers have at most three digits
+rows-short : (w : ℕ) (show : ℕ → List ℕ) → ((p : ℕ) → length (show p) < w) → (r : ℕ) (rows : List (List ℕ)) → r + length rows ≤ tens 3
+    → length (rowLines show r rows) ≤ length rows * rowBytes + length (flatten rows) * w
+unfolding rowLines flatten
+rows-short w show h r [] l = omega arith
+rows-short w show h r (row ∷ rows) l =
+    rw (length-append (line (decimal r) (map show row)) (rowLines show (suc r) rows), length-append row (flatten rows))
+    (omega (
+      arith,
+      line-length (decimal r) (map show row),
+      decimal-short 2 r (omega arith),
+      fields-short w show h row,
+      rows-short w show h (suc r) rows (omega arith),
+      add-mul (length row) (length (flatten rows)) w,
+    ))
+
+-- ---- points
+
+-- a letter, and a number of at most four digits
+kind-short : (k : Kind) → KindLow k → length (kindText k) ≤ 5
+kind-short Check h = omega arith
+kind-short (Adjust t) h = omega (arith, decimal-short 3 t (omega arith))
+kind-short (Wait m) h = omega (arith, decimal-short 3 m (omega arith))
+
+step-short : (bytes : List ℕ) (s : Step) → FairStep bytes s → length (stepText bytes s) < pointBytes
+step-short bytes s h =
+    let name = take (s .len) (drop (s .start) bytes) in
+    rw (length-append (name ++ text "=") (kindText (s .kind)), length-append name (text "="))
+    (omega (arith, length-take (s .len) (drop (s .start) bytes), h .short, kind-short (s .kind) (h .kind-low)))
+
+-- dummies of edges up to number k
+record Numbered (k : ℕ) (ds : List Dummy) : Type 0 where
+  low : (j : ℕ) → getD ds j noDummy .edge ≤ k
+
+abbrev onEdge : ℕ → List ℕ → List Dummy
+onEdge i rows = map (λ r. record { edge = i; row = r }) rows
+
+numbered-more : (k i : ℕ) (rows : List ℕ) (ds : List Dummy) → i ≤ k → Numbered k ds → Numbered k (onEdge i rows ++ ds)
+numbered-more k i [] ds h n = n
+numbered-more k i (r ∷ rows) ds h n = record { low = go (numbered-more k i rows ds h n) }
+  where
+    go : Numbered k (onEdge i rows ++ ds) → (j : ℕ) → getD (onEdge i (r ∷ rows) ++ ds) j noDummy .edge ≤ k
+    go m zero = h
+    go m (suc j) = m .low j
+
+dummies-numbered : (ys : List ℕ) (i : ℕ) (edges : List Edge) → Numbered (i + length edges) (dummies ys i edges)
+unfolding dummies
+dummies-numbered ys i [] = record { low = λ j. zero-le }
+dummies-numbered ys i (e ∷ edges) =
+    numbered-more (i + length (e ∷ edges)) i (run (suc (at ys (e .from))) (between ys e)) (dummies ys (suc i) edges) (omega arith)
+    (record { low = λ j. omega (arith, dummies-numbered ys (suc i) edges .low j) })
+
+-- a point is a step or a dummy; the number of a dummy's edge has at most three digits
+point-short : (bytes : List ℕ) (steps : List Step) (ds : List Dummy) → ((i : ℕ) → i < length steps → FairStep bytes (getD steps i noStep))
+    → Numbered maxEdges ds → (p : ℕ) → length (pointText bytes steps ds p) < pointBytes
+point-short bytes steps ds fair n p = go (ltb p (length steps)) refl
+  where
+    go : (b : Bool) → ltb p (length steps) ≡ b
+        → length (cond b (stepText bytes (getD steps p noStep)) (dummyText (getD ds (p - length steps) noDummy .edge))) < pointBytes
+    go true e = step-short bytes (getD steps p noStep) (fair p (ltb-true p (length steps) e))
+    go false e =
+        let k = getD ds (p - length steps) noDummy .edge in
+        let low = n .low (p - length steps) in
+        omega (arith, decimal-short 2 k (omega arith))
+
+-- ---- the chart
+
+head-short : (n m height sum crossings : ℕ) → n < tens 2 → m < tens 3 → height < tens 3 → sum < tens 8 → crossings < tens 6
+    → length (headText n m height sum crossings) ≤ headBytes
+unfolding blanked
+head-short n m height sum crossings a b c d e =
+    simp length-append
+    (omega (arith, decimal-short 1 n a, decimal-short 2 m b, decimal-short 2 height c, decimal-short 7 sum d, decimal-short 5 crossings e))
+
+-- a chart that is not refused: its table was read, its rows were found, and its points are few
+record Drawable (bytes : List ℕ) (p : Placing) : Type 0 where
+  fair : Fair bytes (p .contents)
+  low : (v : ℕ) → at (p .rows) v ≤ topRow
+  few : pointCount (p .rows) (p .contents .edges) ≤ maxPoints
+
+module _ (bytes : List ℕ) (p : Placing) (h : Drawable bytes p) where
+  abbrev steps-of : List Step
+  steps-of = p .contents .steps
+
+  abbrev edges-of : List Edge
+  edges-of = p .contents .edges
+
+  abbrev drawing : Drawing
+  drawing = drawingOf (p .rows) edges-of
+
+  abbrev show : ℕ → List ℕ
+  show = pointText bytes steps-of (dummies (p .rows) 0 edges-of)
+
+  few-rows : rowCount (p .rows) ≤ suc topRow
+  few-rows = count-low topRow (p .rows) (h .low)
+
+  sum-low : total edges-of (at (p .rows)) < tens 8
+  sum-low =
+      omega (
+        arith,
+        total-low edges-of (at (p .rows)) maxWeight topRow (λ i b. (h .fair .each-edge i b .weight-low, h .low (getD edges-of i noEdge .to))),
+        mul-le-mul-right (maxWeight * topRow) (h .fair .few-edges),
+      )
+
+  few-crossings : drawing .crossings < tens 6
+  few-crossings = omega (arith, crossings-low (p .rows) edges-of (h .fair .few-edges) (h .few))
+
+  shown-short : (q : ℕ) → length (show q) < pointBytes
+  shown-short =
+      point-short bytes steps-of (dummies (p .rows) 0 edges-of) (h .fair .each-step)
+      (record { low = λ j. omega (arith, dummies-numbered (p .rows) 0 edges-of .low j, h .fair .few-edges) })
+
+  heading-short : length (headText (length steps-of) (length edges-of) (rowCount (p .rows)) (total edges-of (at (p .rows))) (drawing .crossings)) ≤ headBytes
+  heading-short =
+      head-short (length steps-of) (length edges-of) (rowCount (p .rows)) (total edges-of (at (p .rows))) (drawing .crossings)
+      (omega (arith, h .fair .few-steps)) (omega (arith, h .fair .few-edges)) (omega (arith, few-rows)) sum-low few-crossings
+
+  -- a line for each row, and each point in one of them
+  lines-short : length (rowLines show 0 (drawing .order)) ≤ suc topRow * rowBytes + maxPoints * pointBytes
+  lines-short =
+      let rows = drawing-rows (p .rows) edges-of in
+      let points = drawing-count (p .rows) edges-of in
+      omega (arith, few-rows, h .few, rows-short pointBytes show shown-short 0 (drawing .order) (omega (arith, few-rows)))
+
+  chart-short : length (chartText bytes p) ≤ maxListing
+  unfolding chartText
+  chart-short =
+      let head = headText (length steps-of) (length edges-of) (rowCount (p .rows)) (total edges-of (at (p .rows))) (drawing .crossings) in
+      rw (length-append head (rowLines show 0 (drawing .order))) (omega (arith, heading-short, lines-short))
+
+-- ---- a refusal
+
+-- the step that comes with a loop is low; any other refusal comes with none
+abbrev StepLow : Refusal → Type 0
+StepLow r = getD (numbersOf r) 1 0 < maxSteps
+
+one-short : (x : ℕ) → x < tens 2 → length (line (text "refused") (decimal x ∷ [])) ≤ maxListing
+unfolding blanked
+one-short x h = simp length-append (omega (arith, decimal-short 1 x h))
+
+refusal-short : (r : Refusal) → StepLow r → length (refusalText r) ≤ maxListing
+unfolding blanked
+refusal-short Cut h = one-short 1 (omega arith)
+refusal-short Overlong h = one-short 2 (omega arith)
+refusal-short BadEdition h = one-short 3 (omega arith)
+refusal-short ManySteps h = one-short 4 (omega arith)
+refusal-short BadKind h = one-short 5 (omega arith)
+refusal-short OutOfRange h = one-short 6 (omega arith)
+refusal-short BadNameByte h = one-short 7 (omega arith)
+refusal-short ManyEdges h = one-short 8 (omega arith)
+refusal-short BadEnd h = one-short 9 (omega arith)
+refusal-short Spare h = one-short 10 (omega arith)
+refusal-short (Loop s) h = simp length-append (omega (arith, decimal-short 1 11 (omega arith), decimal-short 1 s (omega arith)))
+refusal-short ManyPoints h = one-short 12 (omega arith)
+refusal-short ShortBuffer h = one-short 13 (omega arith)
+refusal-short NoStep h = one-short 14 (omega arith)
+
+-- ---- the outcomes of a table
+
+never : {X A : Type 0} {a : A} {r : Refusal} → done a ≡ refused r → X
+never e = let z : _≡_ {A = ℕ} 0 1 = cc in absurd (omega arith)
+
+same : {A : Type 0} {r s : Refusal} → _≡_ {A = Outcome A} (refused r) (refused s) → r ≡ s
+same e = cc
+
+module _ (bytes : List ℕ) where
+  drawable : {p : Placing} → chartOfTable bytes ≡ done p → Drawable bytes p
+  unfolding chartOfTable
+  drawable {p} e = go (read bytes) refl e
+    where
+      many : (t : Contents) (ys : List ℕ) (b : Bool) → read bytes ≡ done t → rowsFound (length (t .steps)) (t .edges) ≡ done ys
+          → leb (pointCount ys (t .edges)) maxPoints ≡ b → demand b ManyPoints (done (record { contents = t; rows = ys })) ≡ done p → Drawable bytes p
+      many t ys true r f l e =
+          let fair = read-fair bytes r in
+          let is : record { contents = t; rows = ys } ≡ p = cc in
+          subst (Drawable bytes) is
+          (record {
+            fair = fair;
+            low = found-low (length (t .steps)) (t .edges) (fair .few-steps) (λ i b. fair .each-edge i b .gap-low) f;
+            few = leb-true (pointCount ys (t .edges)) maxPoints l;
+          })
+      many t ys false r f l e = never (sym e)
+
+      found : (t : Contents) (o : Outcome (List ℕ)) → read bytes ≡ done t → rowsFound (length (t .steps)) (t .edges) ≡ o
+          → thenDo o (λ ys. unlessMany t ys) ≡ done p → Drawable bytes p
+      found t (done ys) r f e = many t ys (leb (pointCount ys (t .edges)) maxPoints) r f refl e
+      found t (refused g) r f e = never (sym e)
+
+      go : (o : Outcome Contents) → read bytes ≡ o
+          → thenDo o (λ t. thenDo (rowsFound (length (t .steps)) (t .edges)) (λ ys. unlessMany t ys)) ≡ done p → Drawable bytes p
+      go (done t) r e = found t (rowsFound (length (t .steps)) (t .edges)) r refl e
+      go (refused g) r e = never (sym e)
+
+  -- the step on a loop is one of the table's
+  loop-low : (t : Contents) {f : Refusal} → read bytes ≡ done t → rowsFound (length (t .steps)) (t .edges) ≡ refused f → StepLow f
+  unfolding rowsFound
+  loop-low t {f} r e = go (lowestOnLoop (length (t .steps)) (t .edges)) refl e
+    where
+      within : Within (length (t .steps)) (t .edges)
+      within i b = (read-fair bytes r .each-edge i b .from-in, read-fair bytes r .each-edge i b .to-in)
+
+      go : (o : Option ℕ) → lowestOnLoop (length (t .steps)) (t .edges) ≡ o → unlessLoop o (rowsOf (length (t .steps)) (t .edges)) ≡ refused f
+          → StepLow f
+      go none l e = never e
+      go (some s) l e =
+          subst StepLow (same e)
+          (omega (arith, lowest-iff (length (t .steps)) (t .edges) within s .1 l .inside, read-fair bytes r .few-steps))
+
+  step-low : {f : Refusal} → chartOfTable bytes ≡ refused f → StepLow f
+  unfolding chartOfTable
+  step-low {f} e = go (read bytes) refl e
+    where
+      many : (t : Contents) (ys : List ℕ) (b : Bool) → demand {A = Placing} b ManyPoints (done (record { contents = t; rows = ys })) ≡ refused f → StepLow f
+      many t ys true e = never e
+      many t ys false e = subst StepLow (same e) (omega arith)
+
+      found : (t : Contents) (o : Outcome (List ℕ)) → read bytes ≡ done t → rowsFound (length (t .steps)) (t .edges) ≡ o
+          → thenDo o (λ ys. unlessMany t ys) ≡ refused f → StepLow f
+      found t (done ys) r g e = many t ys (leb (pointCount ys (t .edges)) maxPoints) e
+      found t (refused g) r h e = subst StepLow (same e) (loop-low t r h)
+
+      go : (o : Outcome Contents) → read bytes ≡ o
+          → thenDo o (λ t. thenDo (rowsFound (length (t .steps)) (t .edges)) (λ ys. unlessMany t ys)) ≡ refused f → StepLow f
+      go (done t) r e = found t (rowsFound (length (t .steps)) (t .edges)) r refl e
+      go (refused g) r e = subst StepLow (same e) (omega (arith, alone g (λ k. omega (arith, read-range bytes r))))
+
+-- ---- the listing
+
+pub listing-short : (bytes : List ℕ) → length (listing bytes) ≤ maxListing
+unfolding listing
+listing-short bytes = go (chartOfTable bytes) refl
+  where
+    go : (o : Outcome Placing) → chartOfTable bytes ≡ o → length (outcomeText bytes o) ≤ maxListing
+    go (done p) e = chart-short bytes p (drawable bytes e)
+    go (refused r) e = refusal-short r (step-low bytes e)

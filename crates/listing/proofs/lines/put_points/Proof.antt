@@ -1,0 +1,76 @@
+-- The points of the row from the next one on are still to be printed; at the first of another row none is left.
+use mathlib.Core.Path.{_≡_, refl, sym, ap, _∙_}
+use mathlib.Core.List.{_∷_, _++_}
+use Prim.Native.Nat.{_+_, _-_, _≤_}
+use native.Mathlib.Omega.{arith}
+use borrow.Author.Needs.{needs}
+use lib.ListN.{length, drop}
+use denote.Ref.{now}
+use Rattle.graph.specs.Rows.{at as entry}
+use Rattle.ordering.proofs.WriteLaws.{Writing, writing-start, writing-room, writing-part, writing-long, writing-end}
+use Rattle.listing.specs.Text.{blank}
+use Rattle.listing.specs.Printing.{labelText, leading, fieldsIn}
+use Rattle.listing.proofs.PrintLaws.{sheet-label, leading-turn, leading-other, leading-end, fields-turn, fields-none}
+use Rattle.listing.proofs.lines.put_points.Statement.{statement}
+use Rattle.listing.proofs.lines.put_points.Tie as tie
+
+abbrev Inv-loop : tie.InvT-loop
+Inv-loop bytes steps ys owners rows order r from out₀ at point₀ next₀ out point next = (point ≤ length order) × Writing out₀ at (fieldsIn (labelText bytes steps (length ys) owners) (ys ++ rows) r (drop from order)) out next (fieldsIn (labelText bytes steps (length ys) owners) (ys ++ rows) r (drop point order)) × (point + length (leading (ys ++ rows) r (drop point order)) ≡ from + length (leading (ys ++ rows) r (drop from order)))
+
+abbrev μ-loop : tie.MeasureT-loop
+μ-loop bytes steps ys owners rows order r from out₀ at point₀ next₀ out point next = length order - point
+
+loop-holds : tie.Need-loop-holds Inv-loop μ-loop
+loop-holds c = (c .before .before .before .before .before .before .pre .1 .0, writing-start _ _ _ (c .before .before .before .before .before .before .pre .1 .1), refl)
+
+mul-p : tie.Need-mul-p Inv-loop μ-loop
+mul-p c = search needs
+
+shared-slice-read-p : tie.Need-shared-slice-read-p Inv-loop μ-loop
+shared-slice-read-p c = search needs
+
+row-of-requires : tie.Need-row-of-requires Inv-loop μ-loop
+row-of-requires c κs = c .before .before .before .before .before .before .before .before .before .pre .0 .points .below _ (c .before .loop-test .taken)
+
+put-point-requires : tie.Need-put-point-requires Inv-loop μ-loop
+put-point-requires c κs = let s = c .before .before .before .before .before .before .before .before .before .before .before .before .args in let i = c .before .before .before .before .before .loop .point in let ys = now (s .ys) ++ now (s .rows) in let show = labelText (now (s .bytes)) (s .steps) (length (now (s .ys))) (now (s .owners)) in (sheet-label _ _ _ _ (now (s .rows)) _ (c .before .before .before .before .before .before .before .before .before .before .before .before .pre .0) i (c .before .before .before .before .loop-test .taken), writing-room (blank ∷ show (entry (now (s .order)) i)) (fieldsIn show ys (s .r) (drop (i + 1) (now (s .order)))) (fields-turn ys (s .r) (now (s .order)) i show (c .before .before .before .before .loop-test .taken) (sym (c .before .before .row-of .ensures) ∙ c .before .if1 .left)) (c .before .before .before .before .before .loop .inv .1))
+
+add-point : tie.Need-add-point Inv-loop μ-loop
+add-point c = search needs
+
+loop-less : tie.Need-loop-less Inv-loop μ-loop
+loop-less c = search needs
+
+loop-again : tie.Need-loop-again Inv-loop μ-loop
+loop-again c = let s = c .before .before .before .before .before .before .before .before .before .before .before .before .before .before .before .args in let i = c .before .before .before .before .before .before .before .before .loop .point in let ys = now (s .ys) ++ now (s .rows) in let show = labelText (now (s .bytes)) (s .steps) (length (now (s .ys))) (now (s .owners)) in let q = sym (c .before .before .before .before .before .row-of .ensures) ∙ c .before .before .before .before .if1 .left in (omega arith, writing-part (blank ∷ show (entry (now (s .order)) i)) (fieldsIn show ys (s .r) (drop (i + 1) (now (s .order)))) (fields-turn ys (s .r) (now (s .order)) i show (c .before .before .before .before .before .before .before .loop-test .taken) q) (c .before .before .before .before .before .before .before .before .loop .inv .1) (c .before .before .put-point .ensures), omega (arith, c .before .before .before .before .before .before .before .before .loop .inv .2, ap length (leading-turn ys (s .r) (now (s .order)) i (c .before .before .before .before .before .before .before .loop-test .taken) q)))
+
+same-length : tie.Need-same-length Inv-loop μ-loop
+same-length c = writing-long (c .before .loop .inv .1)
+
+returns : tie.Need-returns Inv-loop μ-loop
+returns c = let s = c .before .before .before .before .before .before .before .before .args in let ys = now (s .ys) ++ now (s .rows) in let e = leading-end ys (s .r) (now (s .order)) (c .before .loop .point) (c .loop-test .left) in (writing-end (fields-none ys (s .r) (now (s .order)) (c .before .loop .point) _ e) (c .before .loop .inv .1), omega (arith, c .before .loop .inv .2, ap length e))
+
+same-length-2 : tie.Need-same-length-2 Inv-loop μ-loop
+same-length-2 c = writing-long (c .before .before .before .before .loop .inv .1)
+
+returns-2 : tie.Need-returns-2 Inv-loop μ-loop
+returns-2 c = let s = c .before .before .before .before .before .before .before .before .before .before .before .args in let ys = now (s .ys) ++ now (s .rows) in let e = leading-other ys (s .r) (now (s .order)) (c .before .before .before .before .loop .point) (c .before .before .before .loop-test .taken) (λ q. c .if1 .taken (c .before .row-of .ensures ∙ q)) in (writing-end (fields-none ys (s .r) (now (s .order)) (c .before .before .before .before .loop .point) _ e) (c .before .before .before .before .loop .inv .1), omega (arith, c .before .before .before .before .loop .inv .2, ap length e))
+
+pub put-points-spec : {M : Type 1} → statement M
+put-points-spec =
+    tie.close
+    (tie.spec
+    Inv-loop
+    μ-loop
+    loop-holds
+    mul-p
+    shared-slice-read-p
+    row-of-requires
+    put-point-requires
+    add-point
+    loop-less
+    loop-again
+    same-length
+    returns
+    same-length-2
+    returns-2)

@@ -1,0 +1,53 @@
+-- The lines from row r on are still to be written, and their points start at the next one.
+use mathlib.Core.List.{_++_}
+use Prim.Native.Nat.{_+_, _-_, _≤_}
+use native.Mathlib.Omega.{arith}
+use borrow.Author.Needs.{needs}
+use lib.ListN.{length, drop}
+use denote.Ref.{now}
+use Rattle.ordering.proofs.WriteLaws.{Writing, writing-long, writing-end}
+use Rattle.listing.specs.Printing.{labelText, linesFrom}
+use Rattle.listing.proofs.PrintLaws.{lines-start, lines-next, lines-room, lines-end, leading-inside}
+use Rattle.listing.proofs.lines.put_rows.Statement.{statement}
+use Rattle.listing.proofs.lines.put_rows.Tie as tie
+
+abbrev Inv-loop : tie.InvT-loop
+Inv-loop bytes steps ys owners rows order height out₀ at point₀ next₀ r₀ out point next r = (r ≤ height) × (point ≤ length order) × Writing out₀ at (linesFrom (labelText bytes steps (length ys) owners) (ys ++ rows) 0 height order) out next (linesFrom (labelText bytes steps (length ys) owners) (ys ++ rows) r (height - r) (drop point order))
+
+abbrev μ-loop : tie.MeasureT-loop
+μ-loop bytes steps ys owners rows order height out₀ at point₀ next₀ r₀ out point next r = height - r
+
+loop-holds : tie.Need-loop-holds Inv-loop μ-loop
+loop-holds c = let s = c .before .before .before .before .before .before .args in (omega arith, omega arith, lines-start (labelText (now (s .bytes)) (s .steps) (length (now (s .ys))) (now (s .owners))) (now (s .ys) ++ now (s .rows)) (now (s .order)) (s .height) (now (s .out)) (s .at) (c .before .before .before .before .before .before .pre .1))
+
+put-row-requires : tie.Need-put-row-requires Inv-loop μ-loop
+put-row-requires c κs = let s = c .before .before .before .before .before .before .before .before .before .args in let ys = now (s .ys) ++ now (s .rows) in let show = labelText (now (s .bytes)) (s .steps) (length (now (s .ys))) (now (s .owners)) in (c .before .before .before .before .before .before .before .before .before .pre .0, (c .before .before .loop .inv .1, lines-room ys (c .before .before .loop .r) (now (s .order)) (c .before .before .loop .point) show (s .height) (c .before .loop-test .taken) (c .before .before .loop .inv .2)))
+
+add-r : tie.Need-add-r Inv-loop μ-loop
+add-r c = search needs
+
+loop-less : tie.Need-loop-less Inv-loop μ-loop
+loop-less c = search needs
+
+loop-again : tie.Need-loop-again Inv-loop μ-loop
+loop-again c = let s = c .before .before .before .before .before .before .before .before .before .before .before .before .args in let ys = now (s .ys) ++ now (s .rows) in let show = labelText (now (s .bytes)) (s .steps) (length (now (s .ys))) (now (s .owners)) in (omega arith, omega (arith, c .before .before .put-row .ensures .1, leading-inside ys (c .before .before .before .before .before .loop .r) (now (s .order)) (c .before .before .before .before .before .loop .point) (c .before .before .before .before .before .loop .inv .1)), lines-next ys (c .before .before .before .before .before .loop .r) (now (s .order)) (c .before .before .before .before .before .loop .point) show (s .height) (c .before .before .before .before .loop-test .taken) (c .before .before .put-row .ensures .1) (c .before .before .before .before .before .loop .inv .2) (c .before .before .put-row .ensures .0))
+
+same-length : tie.Need-same-length Inv-loop μ-loop
+same-length c = writing-long (c .before .loop .inv .2)
+
+returns : tie.Need-returns Inv-loop μ-loop
+returns c = let s = c .before .before .before .before .before .before .before .before .args in let ys = now (s .ys) ++ now (s .rows) in let show = labelText (now (s .bytes)) (s .steps) (length (now (s .ys))) (now (s .owners)) in writing-end (lines-end ys (c .before .loop .r) (now (s .order)) (c .before .loop .point) show (s .height) (c .loop-test .left)) (c .before .loop .inv .2)
+
+pub put-rows-spec : {M : Type 1} → statement M
+put-rows-spec =
+    tie.close
+    (tie.spec
+    Inv-loop
+    μ-loop
+    loop-holds
+    put-row-requires
+    add-r
+    loop-less
+    loop-again
+    same-length
+    returns)

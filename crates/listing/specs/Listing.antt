@@ -1,0 +1,87 @@
+-- What the program prints for a table: the bytes of its lines.
+use mathlib.Core.Bool.{cond}
+use mathlib.Core.List.{List, [], _∷_, _++_, map}
+use Prim.Native.Nat.{ℕ, suc, _-_}
+use lib.Dec.{ltb}
+use lib.ListN.{length, getD, take, drop}
+use Rattle.graph.specs.Rows.{at, total}
+use Rattle.table.specs.declared.types.Kind.{Kind}
+use Rattle.table.specs.declared.types.Kind.the-variants.{Check, Adjust, Wait}
+use Rattle.table.specs.declared.types.Refusal.{Refusal}
+use Rattle.table.specs.declared.types.Step.{Step}
+use Rattle.table.specs.Calls.{noStep}
+use Rattle.table.specs.Refusal.{Outcome, done, refused, numbersOf}
+use Rattle.ordering.specs.Points.{Dummy, dummies, rowCount}
+use Rattle.ordering.specs.Crossings.{drawingOf}
+use Rattle.ordering.specs.Calls.{Placing, chartOfTable}
+use Rattle.listing.specs.Text.{text, blank, newline, decimal}
+
+-- ---- lines
+
+-- each field behind a blank
+unfoldable pub blanked : List (List ℕ) → List ℕ
+blanked [] = []
+blanked (f ∷ fields) = blank ∷ f ++ blanked fields
+
+-- a line: its first field, the others, and the byte that ends it
+abbrev pub line : List ℕ → List (List ℕ) → List ℕ
+line first rest = first ++ blanked rest ++ newline ∷ []
+
+-- ---- points
+
+-- what a kind prints: its letter, and the number that it carries
+abbrev pub kindText : Kind → List ℕ
+kindText Check = text "C"
+kindText (Adjust t) = text "A" ++ decimal t
+kindText (Wait m) = text "W" ++ decimal m
+
+-- a step: its name, which is a stretch of the table, and its kind
+abbrev pub stepText : List ℕ → Step → List ℕ
+stepText bytes s = take (s .len) (drop (s .start) bytes) ++ text "=" ++ kindText (s .kind)
+
+-- a dummy: the number of its edge
+abbrev pub dummyText : ℕ → List ℕ
+dummyText edge = text "|" ++ decimal edge
+
+-- what stands behind the last dummy
+abbrev pub noDummy : Dummy
+noDummy = record { edge = 0; row = 0 }
+
+-- the points by number: the steps, and behind them the dummies
+abbrev pub pointText : List ℕ → List Step → List Dummy → ℕ → List ℕ
+pointText bytes steps ds p =
+    cond (ltb p (length steps)) (stepText bytes (getD steps p noStep)) (dummyText (getD ds (p - length steps) noDummy .edge))
+
+-- ---- the chart
+
+-- line one: steps, edges, rows, total, crossings
+abbrev pub headText : ℕ → ℕ → ℕ → ℕ → ℕ → List ℕ
+headText n m height sum crossings = line (text "chart") (map decimal (n ∷ m ∷ height ∷ sum ∷ crossings ∷ []))
+
+-- a line for each row from number r on: the number, and the points from left to right
+unfoldable pub rowLines : (ℕ → List ℕ) → ℕ → List (List ℕ) → List ℕ
+rowLines show r [] = []
+rowLines show r (row ∷ rows) = line (decimal r) (map show row) ++ rowLines show (suc r) rows
+
+unfoldable pub chartText : List ℕ → Placing → List ℕ
+chartText bytes p =
+    let steps = p .contents .steps in
+    let edges = p .contents .edges in
+    let drawing = drawingOf (p .rows) edges in
+    headText (length steps) (length edges) (rowCount (p .rows)) (total edges (at (p .rows))) (drawing .crossings)
+    ++ rowLines (pointText bytes steps (dummies (p .rows) 0 edges)) 0 (drawing .order)
+
+-- ---- a refusal
+
+-- its number, and for a loop the step
+abbrev pub refusalText : Refusal → List ℕ
+refusalText r = line (text "refused") (map decimal (numbersOf r))
+
+abbrev pub outcomeText : List ℕ → Outcome Placing → List ℕ
+outcomeText bytes (done p) = chartText bytes p
+outcomeText bytes (refused r) = refusalText r
+
+-- ---- the listing
+
+unfoldable pub listing : List ℕ → List ℕ
+listing bytes = outcomeText bytes (chartOfTable bytes)

@@ -1,0 +1,68 @@
+// The listing of a table, on a page that has room for any.
+use crate::dummies::lay_dummies;
+use crate::lines::put_line;
+use crate::lines::put_refusal;
+use crate::lines::put_rows;
+use ordering::chart_table;
+use ordering::types::ChartFound;
+use table::limits::MAX_POINTS;
+use table::types::Table;
+use table::types::Verdict;
+ghost use mathlib.Core.Path.{_≡_};
+ghost use Prim.Native.Nat.{_≤_};
+ghost use lib.ListN.{length};
+ghost use Rattle.table.specs.Table.{read};
+ghost use Rattle.table.specs.Calls.{tableRead};
+ghost use Rattle.table.specs.declared.types.Verdict.the-variants.{Accepted};
+ghost use Rattle.ordering.specs.Laying.{Stored};
+ghost use Rattle.ordering.specs.Charting.{TableFound};
+ghost use Rattle.listing.specs.Listing.{listing};
+ghost use Rattle.listing.specs.Widths.{maxListing};
+
+// The lines that the bytes are to print. Answers how many bytes they have.
+pub fn print_page(bytes: &[u8], page: &mut [u8]) -> usize
+    requires { ⌜ maxListing ≤ length (now page) ⌝ }
+    ensures { λ r. ⌜ Stored (now (page .entry)) 0 (listing (now (bytes .entry))) (now (page .exit)) r ⌝ }
+{
+    let charted = chart_table(bytes);
+    let table = charted.table;
+    let found = charted.found;
+    let verdict = found.verdict;
+    match verdict {
+        Verdict::Refused(f) => put_refusal(f, page),
+        Verdict::Accepted => print_chart(bytes, table, found, page),
+    }
+}
+
+// Those of a table that has a chart.
+fn print_chart(bytes: &[u8], table: Table, found: ChartFound, page: &mut [u8]) -> usize
+    requires { ⌜ table ≡ tableRead (read (now bytes)) .table ⌝ }
+    requires { ⌜ TableFound (now bytes) found ⌝ }
+    requires { ⌜ found .verdict ≡ Accepted ⌝ }
+    requires { ⌜ maxListing ≤ length (now page) ⌝ }
+    ensures { λ r. ⌜ Stored (now (page .entry)) 0 (listing (now (bytes .entry))) (now (page .exit)) r ⌝ }
+{
+    let n = table.n;
+    let points = found.points;
+    let edges = table.edges;
+    let steps = table.steps;
+    let found_rows = found.rows;
+    let order = found.order;
+    let ys = &found_rows[..n];
+    let mut owners = [0usize; MAX_POINTS];
+    let mut rows = [0usize; MAX_POINTS];
+    let d = lay_dummies(edges, table.m, ys, &mut owners, &mut rows);
+    let figures = [n, table.m, found.height, found.total, found.crossings];
+    let next = put_line(b"chart", &figures, page);
+    put_rows(
+        bytes,
+        steps,
+        ys,
+        &owners[..d],
+        &rows[..d],
+        &order[..points],
+        found.height,
+        page,
+        next,
+    )
+}

@@ -1,0 +1,23 @@
+// What the orderer hands to a layer above.
+use table::limits::MAX_POINTS;
+use table::limits::MAX_STEPS;
+use table::types::Table;
+use table::types::Verdict;
+
+// The first n rows, how many rows these make, the points in their order, and the numbers that go with them; or why there are none.
+pub struct ChartFound {
+    pub verdict: Verdict,
+    pub n: usize,
+    pub rows: [usize; MAX_STEPS],
+    pub height: usize,
+    pub points: usize,
+    pub order: [usize; MAX_POINTS],
+    pub total: usize,
+    pub crossings: usize,
+}
+
+// A table with its chart.
+pub struct TableChart {
+    pub table: Table,
+    pub found: ChartFound,
+}

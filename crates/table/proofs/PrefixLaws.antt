@@ -1,0 +1,180 @@
+-- How much of an input decides its outcome: no accepted table is longer than maxTable bytes, and which bytes a longer input has
+-- behind them makes no difference. So a program may stop taking input once it has more bytes than that.
+use mathlib.Core.Path.{_≡_, refl, ap, _∙_}
+use mathlib.Core.Bool.{Bool, true, false, _&&_, cond}
+use mathlib.Core.List.{List}
+use Prim.Native.Nat.{ℕ, zero, suc, _+_, _*_, _≤_, _<_}
+use native.Mathlib.Omega.{arith}
+use borrow.Author.Tests.{leb-true, leb-false, lt-ltb, ne-eqb}
+use lib.Dec.{leb, ltb}
+use lib.ListN.{length, take}
+use lib.Seq.{take-all, length-take-le, getD-take}
+use Rattle.graph.specs.declared.Edge.{Edge}
+use Rattle.table.specs.declared.types.Kind.{Kind}
+use Rattle.table.specs.declared.types.Step.{Step}
+use Rattle.table.specs.declared.types.Refusal.{Refusal}
+use Rattle.table.specs.declared.types.Refusal.the-variants.{BadEdition, ManySteps, BadKind, OutOfRange, BadNameByte, ManyEdges}
+use Rattle.table.specs.Limits.{edition, maxSteps, maxEdges, maxKind, maxTolerance, minMinutes, maxMinutes, minName, maxName, minNameByte, maxNameByte, minGap, maxGap, maxWeight, numberBytes, stepBytes, edgeBytes, maxTable}
+use Rattle.table.specs.Refusal.{done}
+use Rattle.table.specs.Number.{Read, got, fault, andThen, byteAt, numberAt, numberIn, many, counted}
+use Rattle.table.specs.Table.{Contents, adjustAt, waitAt, kindAt, nameByteAt, nameAt, namedAt, stepAt, endAt, edgeBetween, edgeAt, stepsAt, edgesAt, listsAt, tableAt, outcome, read}
+use Rattle.table.proofs.NumberLaws.{in-limits}
+use Rattle.table.proofs.InverseLaws.{came, passed, got-place, many-width}
+use Rattle.table.proofs.PlaceLaws.{byte-place, limits-place}
+use Rattle.table.proofs.FairLaws.{kind-place, step-fair, end-fair, edge-fair, read-fair}
+
+-- what the widths of the fields add up to
+pub table-bytes : maxTable ≡ 3913
+table-bytes = refl
+
+-- no accepted table is longer
+pub read-short : (s : List ℕ) (t : Contents) → read s ≡ done t → length s ≤ maxTable
+read-short s t e = read-fair s e .short
+
+-- two readings that begin alike, and go on alike from what was read, are the same
+same-then : {A B : Type 0} (x : Read A) {y : Read A} (f g : A → ℕ → Read B) → x ≡ y
+    → ((a : A) (p : ℕ) → x ≡ got a p → f a p ≡ g a p) → andThen x f ≡ andThen y g
+same-then {A} x f g e h = go x h ∙ ap (λ z. andThen z g) e
+  where
+    go : (x : Read A) → ((a : A) (p : ℕ) → x ≡ got a p → f a p ≡ g a p) → andThen x f ≡ andThen x g
+    go (got a p) h = h a p refl
+    go (fault r) h = refl
+
+-- ---- each part of a table that ends within the first maxTable bytes, of two inputs that have these bytes in common
+
+module _ (s t : List ℕ) (same : (i : ℕ) → i < maxTable → byteAt s i ≡ byteAt t i) where
+  number-same : (at : ℕ) → at + numberBytes ≤ maxTable → numberAt s at ≡ numberAt t at
+  unfolding numberAt
+  number-same at h =
+      same-then (byteAt s at) _ _ (same at (omega arith)) λ a p e. ap (cond (ltb a 0x80) (got a p))
+      (same-then (byteAt s p) _ _ (same p (omega (arith, byte-place s at e))) λ b q f. ap (cond (ltb b 0x80) _)
+      (same-then (byteAt s q) _ _ (same q (omega (arith, byte-place s at e, byte-place s p f))) λ c r g. refl))
+
+  limits-same : (low high : ℕ) (r : Refusal) (at : ℕ) → at + numberBytes ≤ maxTable → numberIn low high r s at ≡ numberIn low high r t at
+  unfolding numberIn
+  limits-same low high r at h = rw (number-same at h)
+
+  many-same : {A : Type 0} (f g : ℕ → Read A) (w : ℕ) → ((at : ℕ) → at + w ≤ maxTable → f at ≡ g at)
+      → ((at : ℕ) (a : A) (p : ℕ) → f at ≡ got a p → p ≤ at + w) → (n at : ℕ) → at + n * w ≤ maxTable → many f n at ≡ many g n at
+  unfolding many
+  many-same f g w each wide zero at h = refl
+  many-same f g w each wide (suc n) at h =
+      same-then (f at) _ _ (each at (omega arith)) λ a p e.
+      same-then (many f n p) _ _ (many-same f g w each wide n p (omega (arith, wide at a p e))) λ l q d. refl
+
+  -- ---- steps
+
+  kind-same : (at : ℕ) → at + 2 * numberBytes ≤ maxTable → kindAt s at ≡ kindAt t at
+  unfolding kindAt adjustAt waitAt
+  kind-same at h =
+      same-then (numberIn 0 maxKind BadKind s at) _ _ (limits-same 0 maxKind BadKind at (omega arith)) λ k p e.
+      let l : p + numberBytes ≤ maxTable = omega (arith, limits-place 0 maxKind BadKind s at e) in
+      rw (limits-same 0 maxTolerance OutOfRange p l, limits-same minMinutes maxMinutes OutOfRange p l)
+
+  name-same : (n at : ℕ) → at + n ≤ maxTable → nameAt s n at ≡ nameAt t n at
+  unfolding nameAt nameByteAt
+  name-same n at h = ap counted (many-same (nameByteAt s) (nameByteAt t) 1 (λ i l. rw (same i (omega arith))) wide n at (omega arith))
+    where
+      wide : (i b p : ℕ) → nameByteAt s i ≡ got b p → p ≤ i + 1
+      wide i b p e =
+          let c = came (byteAt s i) _ e in
+          let good = passed (leb minNameByte (c .value) && leb (c .value) maxNameByte) BadNameByte _ (c .next) in
+          omega (arith, byte-place s i (c .first), got-place (good .1))
+
+  named-same : (kind : Kind) (at : ℕ) → at + numberBytes + maxName ≤ maxTable → namedAt s kind at ≡ namedAt t kind at
+  unfolding namedAt
+  named-same kind at h =
+      same-then (numberIn minName maxName OutOfRange s at) _ _ (limits-same minName maxName OutOfRange at (omega arith)) λ n p e.
+      let l : p + n ≤ maxTable = omega (arith, limits-place minName maxName OutOfRange s at e, in-limits minName maxName OutOfRange s at e) in
+      rw (name-same n p l)
+
+  step-same : (at : ℕ) → at + stepBytes ≤ maxTable → stepAt s at ≡ stepAt t at
+  unfolding stepAt
+  step-same at h =
+      same-then (kindAt s at) _ _ (kind-same at (omega arith)) λ kind p e. named-same kind p (omega (arith, kind-place s at e))
+
+  -- ---- edges
+
+  end-same : (n but at : ℕ) → at + numberBytes ≤ maxTable → endAt s n but at ≡ endAt t n but at
+  unfolding endAt
+  end-same n but at h = rw (number-same at h)
+
+  between-same : (from to at : ℕ) → at + 2 * numberBytes ≤ maxTable → edgeBetween s from to at ≡ edgeBetween t from to at
+  unfolding edgeBetween
+  between-same from to at h =
+      same-then (numberIn minGap maxGap OutOfRange s at) _ _ (limits-same minGap maxGap OutOfRange at (omega arith)) λ gap p e.
+      let l : p + numberBytes ≤ maxTable = omega (arith, limits-place minGap maxGap OutOfRange s at e) in
+      rw (limits-same 0 maxWeight OutOfRange p l)
+
+  edge-same : (n at : ℕ) → at + edgeBytes ≤ maxTable → edgeAt s n at ≡ edgeAt t n at
+  unfolding edgeAt
+  edge-same n at h =
+      same-then (endAt s n n at) _ _ (end-same n n at (omega arith)) λ from p e.
+      let a = end-fair s n n at e .2 in
+      same-then (endAt s n from p) _ _ (end-same n from p (omega arith)) λ to q f.
+      let b = end-fair s n from p f .2 in
+      between-same from to q (omega arith)
+
+  -- ---- the lists, with where they end
+
+  steps-same : (at : ℕ) → at + numberBytes + maxSteps * stepBytes ≤ maxTable → stepsAt s at ≡ stepsAt t at
+  unfolding stepsAt
+  steps-same at h =
+      same-then (numberIn 0 maxSteps ManySteps s at) _ _ (limits-same 0 maxSteps ManySteps at (omega arith)) λ n p e.
+      many-same (stepAt s) (stepAt t) stepBytes step-same (λ i a q f. step-fair s i f .1) n p
+      (omega (arith, limits-place 0 maxSteps ManySteps s at e, in-limits 0 maxSteps ManySteps s at e))
+
+  edges-same : (n at : ℕ) → at + numberBytes + maxEdges * edgeBytes ≤ maxTable → edgesAt s n at ≡ edgesAt t n at
+  unfolding edgesAt
+  edges-same n at h =
+      same-then (numberIn 0 maxEdges ManyEdges s at) _ _ (limits-same 0 maxEdges ManyEdges at (omega arith)) λ m p e.
+      many-same (edgeAt s n) (edgeAt t n) edgeBytes (edge-same n) (λ i a q f. edge-fair s n i f .1) m p
+      (omega (arith, limits-place 0 maxEdges ManyEdges s at e, in-limits 0 maxEdges ManyEdges s at e))
+
+  steps-place : (at : ℕ) {l : List Step} {p : ℕ} → stepsAt s at ≡ got l p → p ≤ at + numberBytes + maxSteps * stepBytes
+  unfolding stepsAt
+  steps-place at e =
+      let n = came (numberIn 0 maxSteps ManySteps s at) _ e in
+      let wide = many-width (stepAt s) stepBytes (λ i a q f. step-fair s i f .1) (n .value) (n .place) (n .next) in
+      omega (arith, limits-place 0 maxSteps ManySteps s at (n .first), in-limits 0 maxSteps ManySteps s at (n .first))
+
+  edges-place : (n at : ℕ) {l : List Edge} {p : ℕ} → edgesAt s n at ≡ got l p → p ≤ at + numberBytes + maxEdges * edgeBytes
+  unfolding edgesAt
+  edges-place n at e =
+      let m = came (numberIn 0 maxEdges ManyEdges s at) _ e in
+      let wide = many-width (edgeAt s n) edgeBytes (λ i a q f. edge-fair s n i f .1) (m .value) (m .place) (m .next) in
+      omega (arith, limits-place 0 maxEdges ManyEdges s at (m .first), in-limits 0 maxEdges ManyEdges s at (m .first))
+
+  -- ---- the table: both inputs go on behind the last edge, so both have bytes to spare
+
+  module _ (more-s : maxTable < length s) (more-t : maxTable < length t) where
+    lists-same : (at : ℕ) → at ≤ numberBytes → listsAt s at ≡ listsAt t at
+    unfolding listsAt
+    lists-same at h =
+        same-then (stepsAt s at) _ _ (steps-same at (omega arith)) λ steps p e.
+        let a = steps-place at e in
+        same-then (edgesAt s (length steps) p) _ _ (edges-same (length steps) p (omega arith)) λ edges q f.
+        let b = edges-place (length steps) p f in
+        rw (ne-eqb q (length s) (λ z. omega arith), ne-eqb q (length t) (λ z. omega arith))
+
+    table-same : tableAt s 0 ≡ tableAt t 0
+    unfolding tableAt
+    table-same =
+        same-then (numberIn edition edition BadEdition s 0) _ _ (limits-same edition edition BadEdition 0 (omega arith)) λ v p e.
+        lists-same p (omega (arith, limits-place edition edition BadEdition s 0 e))
+
+-- A reader that takes only the first k bytes, for any k above the length of the longest table, gets the outcome of the whole,
+-- refusals included. An input of at most k bytes is taken whole. Of a longer one both readings see the same bytes where a table
+-- could have any, so that they meet the same fault there, or both find bytes to spare.
+pub read-prefix : (k : ℕ) (s : List ℕ) → maxTable < k → read (take k s) ≡ read s
+unfolding read byteAt
+read-prefix k s h = go (leb (length s) k) refl
+  where
+    go : (b : Bool) → leb (length s) k ≡ b → read (take k s) ≡ read s
+    go true e = ap read (take-all k s (leb-true (length s) k e))
+    go false e =
+        let l = leb-false (length s) k e in
+        let n = length-take-le k s (omega arith) in
+        let same : (i : ℕ) → i < maxTable → byteAt (take k s) i ≡ byteAt s i =
+        λ i m. rw (lt-ltb i (length (take k s)) (omega arith), lt-ltb i (length s) (omega arith), getD-take k s i 0 (omega arith)) in
+        ap outcome (table-same (take k s) s same (omega arith) (omega arith))

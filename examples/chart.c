@@ -1,0 +1,46 @@
+/* The calls of the library, each once, in the order in which a table can be refused. */
+#include "chart.h"
+
+/* The counts, the name of each step, and the edges. */
+static uint64_t ask_steps(Chart *chart) {
+  uint64_t answer = yuvatondro_counts(chart->table, chart->table_len);
+  if (yuvatondro_refusal(answer) != YUVATONDRO_DONE) return answer;
+  chart->steps = yuvatondro_steps(answer);
+  chart->edges = yuvatondro_edges(answer);
+  for (unsigned i = 0; i < chart->steps; i++) {
+    answer = yuvatondro_name(chart->table, chart->table_len, i);
+    if (yuvatondro_refusal(answer) != YUVATONDRO_DONE) return answer;
+    chart->name[i] = chart->table + yuvatondro_name_start(answer);
+    chart->name_len[i] = yuvatondro_name_length(answer);
+  }
+  read_edges(chart, chart->edge);
+  chart->known = STEPS;
+  return YUVATONDRO_DONE;
+}
+
+/* The rows, also of a table whose chart has too many points. */
+static uint64_t ask_rows(Chart *chart) {
+  uint64_t answer = yuvatondro_rows(chart->table, chart->table_len, chart->row, YUVATONDRO_MAX_STEPS);
+  if (yuvatondro_refusal(answer) == YUVATONDRO_DONE) chart->known = ROWS;
+  return answer;
+}
+
+static uint64_t ask_order(Chart *chart) {
+  uint64_t answer = yuvatondro_chart(chart->table, chart->table_len, chart->row, YUVATONDRO_MAX_STEPS, chart->order, YUVATONDRO_MAX_POINTS);
+  if (yuvatondro_refusal(answer) != YUVATONDRO_DONE) return answer;
+  chart->points = yuvatondro_points(answer);
+  chart->total = yuvatondro_total(answer);
+  chart->crossings = yuvatondro_crossings(answer);
+  chart->known = ORDER;
+  return YUVATONDRO_DONE;
+}
+
+uint64_t ask_chart(Chart *chart, const uint8_t *table, size_t table_len) {
+  chart->table = table;
+  chart->table_len = table_len;
+  chart->known = NOTHING;
+  uint64_t answer = ask_steps(chart);
+  if (yuvatondro_refusal(answer) == YUVATONDRO_DONE) answer = ask_rows(chart);
+  if (yuvatondro_refusal(answer) == YUVATONDRO_DONE) answer = ask_order(chart);
+  return answer;
+}

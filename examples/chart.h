@@ -1,0 +1,70 @@
+/* What the host program of the example knows of a table: the answers of the calls, the edges, and where each point stands. */
+#ifndef CHART_H
+#define CHART_H
+
+#include <stdio.h>
+
+#include "yuvatondro.h"
+
+/* Gaps of at most 4 over 64 steps lead no further down than row 252. Each edge has a segment more than it has dummies. */
+enum { MAX_ROWS = 253, MAX_SEGMENTS = YUVATONDRO_MAX_POINTS + YUVATONDRO_MAX_EDGES };
+
+typedef struct {
+  size_t from, to, gap, weight;
+} Edge;
+
+/* A part of an edge, between neighbouring rows. */
+typedef struct {
+  unsigned upper, lower, edge;
+} Segment;
+
+/* How much of a chart is known. */
+typedef enum { NOTHING, STEPS, ROWS, ORDER } Known;
+
+typedef struct {
+  const uint8_t *table;
+  size_t table_len;
+  Known known;
+
+  /* known from STEPS on; a name is a stretch of the table */
+  unsigned steps, edges;
+  const uint8_t *name[YUVATONDRO_MAX_STEPS];
+  size_t name_len[YUVATONDRO_MAX_STEPS];
+  Edge edge[YUVATONDRO_MAX_EDGES];
+
+  /* known from ROWS on */
+  uint8_t row[YUVATONDRO_MAX_STEPS];
+
+  /* known with ORDER; the points of row r are order[row_start[r]] to order[row_start[r + 1] - 1] */
+  unsigned points, rows, segments;
+  unsigned long total, crossings;
+  uint16_t order[YUVATONDRO_MAX_POINTS];
+  unsigned row_start[MAX_ROWS + 1];
+  unsigned point_row[YUVATONDRO_MAX_POINTS];
+  unsigned point_place[YUVATONDRO_MAX_POINTS]; /* from the left, from 0 */
+  unsigned point_edge[YUVATONDRO_MAX_POINTS];  /* of a dummy */
+  Segment segment[MAX_SEGMENTS];
+} Chart;
+
+/* chart.c: asks the library for all that it has to say of the table; its last answer, which is a refusal or not. */
+uint64_t ask_chart(Chart *chart, const uint8_t *table, size_t table_len);
+
+/* edges.c */
+void read_edges(const Chart *chart, Edge *edge);
+
+/* points.c: whether the points that the edges make are those of the library's order; if so they are placed. */
+int place_points(Chart *chart);
+
+/* layout.c: a middle x for each point, from widths and the blank between neighbours in any unit; the least left side is 0. Gives the
+ * greatest right side. */
+long lay_out(const Chart *chart, const long *width, long blank, long *x);
+
+/* refusal.c: a sentence on what a refusal means and what to do about it. */
+void explain_refusal(FILE *out, const Chart *chart, uint64_t answer);
+
+/* lists.c, draw_text.c, draw_svg.c */
+void list_chart(FILE *out, const Chart *chart);
+void draw_text(FILE *out, const Chart *chart);
+void draw_svg(FILE *out, const Chart *chart);
+
+#endif

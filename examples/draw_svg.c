@@ -1,0 +1,191 @@
+/* The chart as a picture: a rounded box a step, with its number and name, in its row; a line an edge, through its dummies; the numbers of
+ * the rows at the left. Lines go straight down within a row and slant only between rows, so none runs through a box, and two lines cross
+ * only where the library counts a crossing. Hovering over a box or a line tells more of it. */
+#include "chart.h"
+
+/* All lengths are in tenths of a pixel. */
+enum {
+  LETTER = 78,       /* the width of a letter of a monospaced font of 13 pixels */
+  SMALL_LETTER = 66, /* and of 11 */
+  BOX_PADDING = 100,
+  BOX_HEIGHT = 300,
+  BLANK = 180,      /* between neighbours in a row */
+  PORT = 120,       /* between the ends of lines at a box, if its width allows */
+  ROW_GAP = 300,    /* between rows, at least */
+  STEEP = 8,        /* the gap grows by this part of how far its widest line goes sideways, */
+  SLANT_GAP = 1500, /* up to this */
+  LEFT = 520,
+  TOP = 560,
+  MARGIN = 240,
+  BASELINE = 45 /* from the middle of a line of text to its foot */
+};
+
+typedef struct {
+  long x[YUVATONDRO_MAX_POINTS], width[YUVATONDRO_MAX_POINTS];
+  long out[MAX_SEGMENTS], in[MAX_SEGMENTS]; /* where a segment leaves its upper row and enters its lower row */
+  long top[MAX_ROWS], height[MAX_ROWS];
+  long right, bottom;
+  char figures[128]; /* the line above the chart */
+} Picture;
+
+static double px(long tenths) { return (double)tenths / 10; }
+
+static int is_step(const Chart *chart, unsigned point) { return point < chart->steps; }
+
+static long digits(unsigned number) { return number < 10 ? 1 : 2; }
+
+static long box_width(const Chart *chart, unsigned step) {
+  return 2 * BOX_PADDING + LETTER * (digits(step) + 1 + (long)chart->name_len[step]);
+}
+
+/* Whether segment a leaves (or enters) a box to the left of b: as their other ends stand, then by edge. */
+static int is_left(const Chart *chart, const Segment *a, const Segment *b, int leaving) {
+  unsigned place_a = chart->point_place[leaving ? a->lower : a->upper], place_b = chart->point_place[leaving ? b->lower : b->upper];
+  return place_a < place_b || (place_a == place_b && a->edge < b->edge);
+}
+
+/* Where a segment meets a point: the middle of a dummy, or the segment's own port at the foot or the head of a box. */
+static long meet(const Chart *chart, const Picture *p, const Segment *s, int leaving) {
+  unsigned point = leaving ? s->upper : s->lower;
+  long ports = 0, before = 0;
+  if (!is_step(chart, point)) return p->x[point];
+  for (unsigned i = 0; i < chart->segments; i++) {
+    const Segment *t = &chart->segment[i];
+    if ((leaving ? t->upper : t->lower) != point) continue;
+    ports++;
+    before += is_left(chart, t, s, leaving);
+  }
+  long room = p->width[point] - 2 * BOX_PADDING;
+  long span = (ports - 1) * PORT < room ? (ports - 1) * PORT : room;
+  return ports < 2 ? p->x[point] : p->x[point] - span / 2 + span * before / (ports - 1);
+}
+
+static void place_columns(const Chart *chart, Picture *p) {
+  for (unsigned i = 0; i < chart->points; i++) p->width[i] = is_step(chart, i) ? box_width(chart, i) : 0;
+  p->right = LEFT + lay_out(chart, p->width, BLANK, p->x) + MARGIN;
+  for (unsigned i = 0; i < chart->points; i++) p->x[i] += LEFT;
+  for (unsigned i = 0; i < chart->segments; i++) {
+    p->out[i] = meet(chart, p, &chart->segment[i], 1);
+    p->in[i] = meet(chart, p, &chart->segment[i], 0);
+  }
+}
+
+/* The picture is as wide as the line above it, or wider. */
+static void place_figures(const Chart *chart, Picture *p) {
+  int letters = snprintf(p->figures, sizeof p->figures, "%u steps, %u edges, %u rows, total %lu, crossings %lu", chart->steps, chart->edges,
+                         chart->rows, chart->total, chart->crossings);
+  long right = 2 * MARGIN + SMALL_LETTER * letters;
+  if (p->right < right) p->right = right;
+}
+
+/* The gap below a row grows with the widest slant in it. */
+static long gap_below(const Chart *chart, const Picture *p, unsigned row) {
+  long widest = 0;
+  for (unsigned i = 0; i < chart->segments; i++) {
+    long slant = p->out[i] < p->in[i] ? p->in[i] - p->out[i] : p->out[i] - p->in[i];
+    if (chart->point_row[chart->segment[i].upper] == row && slant > widest) widest = slant;
+  }
+  long gap = ROW_GAP + widest / STEEP;
+  return gap < SLANT_GAP ? gap : SLANT_GAP;
+}
+
+/* A row of dummies only takes no height of its own. */
+static void place_rows(const Chart *chart, Picture *p) {
+  long y = TOP;
+  for (unsigned row = 0; row < chart->rows; row++) p->height[row] = 0;
+  for (unsigned i = 0; i < chart->steps; i++) p->height[chart->point_row[i]] = BOX_HEIGHT;
+  for (unsigned row = 0; row < chart->rows; row++) {
+    p->top[row] = y;
+    y += p->height[row];
+    if (row + 1 < chart->rows) y += gap_below(chart, p, row);
+  }
+  p->bottom = y + MARGIN;
+}
+
+/* A name in XML: any byte from 21 to 7E may stand in it. */
+static void put_name(FILE *out, const Chart *chart, size_t step) {
+  for (size_t i = 0; i < chart->name_len[step]; i++) {
+    switch (chart->name[step][i]) {
+      case '&': fputs("&amp;", out); break;
+      case '<': fputs("&lt;", out); break;
+      case '>': fputs("&gt;", out); break;
+      case '"': fputs("&quot;", out); break;
+      case '\'': fputs("&#39;", out); break;
+      default: fputc(chart->name[step][i], out);
+    }
+  }
+}
+
+static void open_picture(FILE *out, const Picture *p) {
+  fprintf(out, "<?xml version=\"1.0\" encoding=\"UTF-8\"?>\n");
+  fprintf(out, "<svg xmlns=\"http://www.w3.org/2000/svg\" width=\"%.1f\" height=\"%.1f\" viewBox=\"0 0 %.1f %.1f\"", px(p->right),
+          px(p->bottom), px(p->right), px(p->bottom));
+  fprintf(out, " font-family=\"DejaVu Sans Mono, Menlo, Consolas, monospace\" font-size=\"13\">\n<title>%s</title>\n", p->figures);
+  fprintf(out,
+          "<defs><marker id=\"tip\" viewBox=\"0 0 8 8\" refX=\"7.5\" refY=\"4\" markerWidth=\"7\" markerHeight=\"7\" "
+          "orient=\"auto\"><path d=\"M0 1L8 4L0 7Z\" fill=\"#5f7285\" stroke=\"none\"/></marker></defs>\n");
+  fprintf(out, "<rect width=\"100%%\" height=\"100%%\" fill=\"#ffffff\"/>\n");
+  fprintf(out, "<text x=\"%.1f\" y=\"26\" font-size=\"11\" fill=\"#7b8794\">%s</text>\n", px(MARGIN), p->figures);
+}
+
+static void draw_rows(FILE *out, const Chart *chart, const Picture *p) {
+  fprintf(out, "<g class=\"rows\" font-size=\"11\" fill=\"#9aa5b1\" text-anchor=\"end\" stroke-width=\"1\">\n");
+  for (unsigned row = 0; row < chart->rows; row++) {
+    double middle = px(p->top[row] + p->height[row] / 2);
+    fprintf(out, "<path d=\"M%.1f %.1fH%.1f\" stroke=\"#edf0f3\"/>", px(LEFT - 120), middle, px(p->right - MARGIN / 2));
+    fprintf(out, "<text x=\"%.1f\" y=\"%.1f\">%u</text>\n", px(LEFT - 180), middle + px(BASELINE - 5), row);
+  }
+  fprintf(out, "</g>\n");
+}
+
+/* The line of an edge, whose segments stand together: from the foot of a box to the head of another, straight down at its dummies. */
+static unsigned draw_edge(FILE *out, const Chart *chart, const Picture *p, unsigned first) {
+  unsigned i = first, edge = chart->segment[first].edge, row = chart->point_row[chart->segment[first].upper];
+  fprintf(out, "<path class=\"edge\" d=\"M%.1f %.1f", px(p->out[first]), px(p->top[row] + p->height[row]));
+  for (; i < chart->segments && chart->segment[i].edge == edge; i++) {
+    row = chart->point_row[chart->segment[i].lower];
+    fprintf(out, "L%.1f %.1f", px(p->in[i]), px(p->top[row]));
+    if (!is_step(chart, chart->segment[i].lower) && p->height[row] > 0) fprintf(out, "V%.1f", px(p->top[row] + p->height[row]));
+  }
+  const Edge *e = &chart->edge[edge];
+  fprintf(out, "\"><title>edge %u: %zu ", edge, e->from);
+  put_name(out, chart, e->from);
+  fprintf(out, " to %zu ", e->to);
+  put_name(out, chart, e->to);
+  fprintf(out, ", gap %zu, weight %zu, length %u</title></path>\n", e->gap, e->weight, i - first);
+  return i;
+}
+
+static void draw_edges(FILE *out, const Chart *chart, const Picture *p) {
+  fprintf(out,
+          "<g class=\"edges\" fill=\"none\" stroke=\"#5f7285\" stroke-width=\"1.1\" stroke-linejoin=\"round\" "
+          "marker-end=\"url(#tip)\">\n");
+  for (unsigned i = 0; i < chart->segments;) i = draw_edge(out, chart, p, i);
+  fprintf(out, "</g>\n");
+}
+
+static void draw_step(FILE *out, const Chart *chart, const Picture *p, unsigned step) {
+  unsigned row = chart->point_row[step];
+  fprintf(out, "<g class=\"step\"><title>step %u: ", step);
+  put_name(out, chart, step);
+  fprintf(out, ", row %u</title>", row);
+  fprintf(out, "<rect x=\"%.1f\" y=\"%.1f\" width=\"%.1f\" height=\"%.1f\" rx=\"7\"/>", px(p->x[step] - p->width[step] / 2),
+          px(p->top[row]), px(p->width[step]), px(BOX_HEIGHT));
+  fprintf(out, "<text x=\"%.1f\" y=\"%.1f\" stroke=\"none\" fill=\"#1f2d3a\"><tspan fill=\"#8a97a5\">%u</tspan> ", px(p->x[step]),
+          px(p->top[row] + BOX_HEIGHT / 2 + BASELINE), step);
+  put_name(out, chart, step);
+  fprintf(out, "</text></g>\n");
+}
+
+void draw_svg(FILE *out, const Chart *chart) {
+  static Picture p;
+  place_columns(chart, &p);
+  place_figures(chart, &p);
+  place_rows(chart, &p);
+  open_picture(out, &p);
+  draw_rows(out, chart, &p);
+  draw_edges(out, chart, &p);
+  fprintf(out, "<g class=\"steps\" text-anchor=\"middle\" fill=\"#f3f7fb\" stroke=\"#3f6184\" stroke-width=\"1.2\">\n");
+  for (unsigned i = 0; i < chart->steps; i++) draw_step(out, chart, &p, i);
+  fprintf(out, "</g>\n</svg>\n");
+}

@@ -1,0 +1,34 @@
+/* The chart as text: a line a row, with its number. A step is its number and name in brackets; a bar with a number is an edge that passes
+ * by on its way down. Edges between neighbouring rows are not drawn: the list of edges has them. */
+#include "chart.h"
+
+enum { UNITS = 16, LONGEST = 32 };
+
+/* The text of a point; gives its length. */
+static int point_text(const Chart *chart, unsigned point, char text[LONGEST]) {
+  if (point >= chart->steps) return snprintf(text, LONGEST, "|%u", chart->point_edge[point]);
+  return snprintf(text, LONGEST, "[%u %.*s]", point, (int)chart->name_len[point], (const char *)chart->name[point]);
+}
+
+static void draw_row(FILE *out, const Chart *chart, unsigned row, const long *width, const long *x) {
+  char text[LONGEST];
+  long column = 0;
+  fprintf(out, "%3u  ", row);
+  for (unsigned i = chart->row_start[row]; i < chart->row_start[row + 1]; i++) {
+    unsigned point = chart->order[i];
+    long start = (x[point] - width[point] / 2) / UNITS;
+    int length = point_text(chart, point, text);
+    fprintf(out, "%*s%s", (int)(start - column), "", text);
+    column = start + length;
+  }
+  fprintf(out, "\n");
+}
+
+void draw_text(FILE *out, const Chart *chart) {
+  char text[LONGEST];
+  long width[YUVATONDRO_MAX_POINTS], x[YUVATONDRO_MAX_POINTS];
+  for (unsigned i = 0; i < chart->points; i++) width[i] = UNITS * (long)point_text(chart, i, text);
+  lay_out(chart, width, UNITS, x);
+  fprintf(out, "\nrow  chart\n");
+  for (unsigned row = 0; row < chart->rows; row++) draw_row(out, chart, row, width, x);
+}

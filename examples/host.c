@@ -1,0 +1,67 @@
+/* A host program: host TABLE [SVG]
+ *
+ * Reads a table from a file, prints all that the calls of include/yuvatondro.h tell of it as lists and as a drawing in text, and, with a
+ * second argument, draws the chart as a picture. chart.c has the calls. What the calls do not hand out is not shown, with one exception:
+ * the ends of the edges, which edges.c reads. So a step has its name, but not its kind.
+ *
+ * Ends with status 0; with 1 if the table is refused, after printing what is known of it; with 2 for trouble with the arguments or files.
+ */
+#include <errno.h>
+#include <string.h>
+
+#include "chart.h"
+
+/* No accepted table is longer than 3,913 bytes, and a longer file is refused for the same reason as its first 8,192 bytes. */
+enum { ROOM = 8192, REFUSED = 1, TROUBLE = 2 };
+
+static int report(const char *path) {
+  fprintf(stderr, "host: %s: %s\n", path, strerror(errno));
+  return TROUBLE;
+}
+
+/* Fills the buffer from a file; gives the status. */
+static int read_table(const char *path, uint8_t *table, size_t *table_len) {
+  FILE *in = fopen(path, "rb");
+  if (in == NULL) return report(path);
+  *table_len = fread(table, 1, ROOM, in);
+  int status = ferror(in) ? report(path) : 0;
+  fclose(in);
+  return status;
+}
+
+static int write_svg(const char *path, const Chart *chart) {
+  FILE *out = fopen(path, "wb");
+  if (out == NULL) return report(path);
+  draw_svg(out, chart);
+  int failed = ferror(out);
+  return fclose(out) != 0 || failed ? report(path) : 0;
+}
+
+/* Prints what is known, then what was refused, if anything. */
+static int show_chart(Chart *chart, uint64_t answer, const char *svg) {
+  if (chart->known == ORDER && !place_points(chart)) {
+    fprintf(stderr, "host: the edges that edges.c reads are not those of the library\n");
+    return TROUBLE;
+  }
+  list_chart(stdout, chart);
+  if (chart->known == ORDER) draw_text(stdout, chart);
+  if (fflush(stdout) != 0 || ferror(stdout)) return report("standard output");
+  if (yuvatondro_refusal(answer) != YUVATONDRO_DONE) {
+    explain_refusal(stderr, chart, answer);
+    return REFUSED;
+  }
+  return svg == NULL ? 0 : write_svg(svg, chart);
+}
+
+int main(int argc, char **argv) {
+  static uint8_t table[ROOM];
+  static Chart chart;
+  size_t table_len = 0;
+  if (argc != 2 && argc != 3) {
+    fprintf(stderr, "usage: host TABLE [SVG]\n");
+    return TROUBLE;
+  }
+  int status = read_table(argv[1], table, &table_len);
+  if (status != 0) return status;
+  return show_chart(&chart, ask_chart(&chart, table, table_len), argc == 3 ? argv[2] : NULL);
+}

@@ -1,0 +1,55 @@
+/* All that is known of a chart, as lists. */
+#include "chart.h"
+
+static void list_numbers(FILE *out, const Chart *chart) {
+  fprintf(out, "bytes     %zu\n", chart->table_len);
+  fprintf(out, "steps     %u\n", chart->steps);
+  fprintf(out, "edges     %u\n", chart->edges);
+  if (chart->known < ORDER) return;
+  fprintf(out, "rows      %u\n", chart->rows);
+  fprintf(out, "points    %u\n", chart->points);
+  fprintf(out, "total     %lu\n", chart->total);
+  fprintf(out, "crossings %lu\n", chart->crossings);
+}
+
+/* A step's row is a dash where there is none. */
+static void list_steps(FILE *out, const Chart *chart) {
+  fprintf(out, "\nstep  row  name\n");
+  for (unsigned i = 0; i < chart->steps; i++) {
+    fprintf(out, "%4u  ", i);
+    if (chart->known < ROWS)
+      fprintf(out, "  -");
+    else
+      fprintf(out, "%3u", (unsigned)chart->row[i]);
+    fprintf(out, "  %.*s\n", (int)chart->name_len[i], (const char *)chart->name[i]);
+  }
+}
+
+static void list_edges(FILE *out, const Chart *chart) {
+  fprintf(out, "\nedge  from  to  gap  weight  length\n");
+  for (unsigned i = 0; i < chart->edges; i++) {
+    const Edge *e = &chart->edge[i];
+    fprintf(out, "%4u  %4zu  %2zu  %3zu  %6zu  ", i, e->from, e->to, e->gap, e->weight);
+    if (chart->known < ROWS)
+      fprintf(out, "     -\n");
+    else
+      fprintf(out, "%6d\n", chart->row[e->to] - chart->row[e->from]);
+  }
+}
+
+static void list_order(FILE *out, const Chart *chart) {
+  fprintf(out, "\nrow  points from left to right, the steps before %u, the dummies from there on\n", chart->steps);
+  for (unsigned row = 0; row < chart->rows; row++) {
+    fprintf(out, "%3u ", row);
+    for (unsigned i = chart->row_start[row]; i < chart->row_start[row + 1]; i++) fprintf(out, " %u", (unsigned)chart->order[i]);
+    fprintf(out, "\n");
+  }
+}
+
+void list_chart(FILE *out, const Chart *chart) {
+  if (chart->known < STEPS) return;
+  list_numbers(out, chart);
+  list_steps(out, chart);
+  list_edges(out, chart);
+  if (chart->known == ORDER) list_order(out, chart);
+}

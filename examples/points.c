@@ -1,0 +1,58 @@
+/* Points and segments: steps, then the dummies of the edges, by edge and by rising row; and the place of each point in its row. */
+#include <string.h>
+
+#include "chart.h"
+
+/* Whether the edges read here are those that the library has: it finds the same rows for them, and counts as many points. */
+static int edges_agree(const Chart *chart) {
+  size_t record[4 * YUVATONDRO_MAX_EDGES];
+  uint8_t row[YUVATONDRO_MAX_STEPS];
+  unsigned long points = chart->steps;
+  for (unsigned i = 0; i < chart->edges; i++) {
+    const Edge *e = &chart->edge[i];
+    const size_t numbers[4] = {e->from, e->to, e->gap, e->weight};
+    memcpy(record + 4 * i, numbers, sizeof numbers);
+  }
+  uint64_t answer = yuvatondro_records(chart->steps, record, 4 * chart->edges, row, YUVATONDRO_MAX_STEPS);
+  if (answer != YUVATONDRO_DONE || memcmp(row, chart->row, chart->steps) != 0) return 0;
+  for (unsigned i = 0; i < chart->edges; i++) points += (unsigned long)(row[chart->edge[i].to] - row[chart->edge[i].from] - 1);
+  return points == chart->points;
+}
+
+static void add_segment(Chart *chart, unsigned upper, unsigned lower, unsigned edge) {
+  chart->segment[chart->segments++] = (Segment){upper, lower, edge};
+}
+
+/* The dummies of an edge, numbered from `point` on, and its segments. Gives the number behind the last dummy. */
+static unsigned lay_edge(Chart *chart, unsigned edge, unsigned point) {
+  unsigned from = (unsigned)chart->edge[edge].from, to = (unsigned)chart->edge[edge].to, upper = from;
+  for (unsigned row = chart->row[from] + 1u; row < chart->row[to]; row++) {
+    chart->point_row[point] = row;
+    chart->point_edge[point] = edge;
+    add_segment(chart, upper, point, edge);
+    upper = point++;
+  }
+  add_segment(chart, upper, to, edge);
+  return point;
+}
+
+/* Cuts the order into rows: it goes row by row, so a row starts where the row of the points changes. No row is empty. */
+static void cut_rows(Chart *chart) {
+  chart->rows = 0;
+  for (unsigned i = 0; i < chart->points; i++) {
+    unsigned point = chart->order[i];
+    if (chart->point_row[point] == chart->rows) chart->row_start[chart->rows++] = i;
+    chart->point_place[point] = i - chart->row_start[chart->rows - 1];
+  }
+  chart->row_start[chart->rows] = chart->points;
+}
+
+int place_points(Chart *chart) {
+  if (!edges_agree(chart)) return 0;
+  chart->segments = 0;
+  for (unsigned i = 0; i < chart->steps; i++) chart->point_row[i] = chart->row[i];
+  unsigned point = chart->steps;
+  for (unsigned i = 0; i < chart->edges; i++) point = lay_edge(chart, i, point);
+  cut_rows(chart);
+  return 1;
+}
