@@ -64,7 +64,7 @@ pub extern "C" fn yuvatondro_records(steps: usize, records: &[usize], rows: &mut
     ensures { λ _. ⌜ now (rows .exit) ≡ recordCall steps (recordsOf (now (records .entry))) (now (rows .entry)) .rows ⌝ }
     ensures { λ r. ⌜ RecordsBest steps (recordsOf (now (records .entry))) r (now (rows .exit)) ⌝ }
 {
-    match layering::find_rows_of_records(steps, records, rows) {
+    match layering::find_rows_of_numbers(steps, records, rows) {
         RowsAnswer::Refused(f) => refusal_word(f),
         RowsAnswer::Done => 0,
     }

@@ -11,8 +11,6 @@ use Rattle.graph.specs.Rows.{noEdge}
 use Rattle.table.specs.declared.types.Refusal.{Refusal}
 use Rattle.table.specs.declared.types.Refusal.the-variants.{ManySteps, ManyEdges}
 use Rattle.table.specs.declared.types.TableRead.{TableRead}
-use Rattle.table.specs.declared.types.Verdict.{Verdict}
-use Rattle.table.specs.declared.types.Verdict.the-variants.{Accepted, Refused}
 use Rattle.table.specs.Limits.{maxSteps, maxEdges}
 use Rattle.table.specs.Refusal.{Outcome, done, refused}
 use Rattle.table.specs.Table.{Contents, read}
@@ -22,7 +20,8 @@ use Rattle.table.proofs.AnswerLaws.{Told}
 use Rattle.layering.specs.declared.types.RowsAnswer.{RowsAnswer}
 use Rattle.layering.specs.declared.types.RowsFound.{RowsFound}
 use Rattle.layering.specs.Calls.{rowsFound, rowsAnswer, rowsOfTable, rowsCall, recordsJudged, rowsOfRecords, recordCall, RecordsBest, TableBest}
-use Rattle.layering.specs.Placed.{outcomeBy, foundOf, FairEdges, Placed, EdgesPlaced, HandedOut, Taken, contentsOf, TablePlaced, RecordsPlaced}
+use Rattle.layering.specs.Placed.{foundOf, FairEdges, Placed, EdgesPlaced, HandedOut, contentsOf, TablePlaced, RecordsPlaced}
+use Rattle.layering.specs.Lent.{RecordsAnswered}
 use Rattle.layering.proofs.StoreLaws.{handed-best}
 use Rattle.layering.proofs.RecordLaws.{judged-fair}
 
@@ -38,37 +37,26 @@ module _ (n : ℕ) (edges : List Edge) where
     unfolding rowsOfRecords
     records-many-edges h = simp (le-leb n maxSteps few, lt-leb (length edges) maxEdges h)
 
-    module _ (fewer : length edges ≤ maxEdges) (v : Verdict) (list : List Edge) (taken : Taken n edges v list) where
-      pub records-fault : {f : Refusal} → v ≡ Refused f → rowsOfRecords n edges ≡ refused f
+    module _ (fewer : length edges ≤ maxEdges) where
+      pub records-fault : {f : Refusal} → recordsJudged n edges ≡ refused f → rowsOfRecords n edges ≡ refused f
       unfolding rowsOfRecords
-      records-fault e = simp (le-leb n maxSteps few, le-leb (length edges) maxEdges fewer, sym (taken .says), e)
+      records-fault e = simp (le-leb n maxSteps few, le-leb (length edges) maxEdges fewer, e)
 
-      module _ (a : v ≡ Accepted) where
-        judged : recordsJudged n edges ≡ done tt
-        judged = sym (taken .says) ∙ ap (λ u. outcomeBy u tt) a
-
+      module _ (judged : recordsJudged n edges ≡ done tt) where
         outcome : rowsOfRecords n edges ≡ rowsFound n edges
         unfolding rowsOfRecords
         outcome = simp (le-leb n maxSteps few, le-leb (length edges) maxEdges fewer, judged)
 
-        fair : FairEdges n edges
-        fair = record { few-steps = few; few-edges = fewer; each = judged-fair n edges judged }
+        pub records-fair : FairEdges n edges
+        records-fair = record { few-steps = few; few-edges = fewer; each = judged-fair n edges judged }
 
-        module _ (m : ℕ) (count : m ≡ length edges) where
-          same : take m list ≡ edges
-          same = ap (λ k. take k list) count ∙ taken .there a
-
-          pub records-fair : FairEdges n (take m list)
-          records-fair = subst (FairEdges n) (sym same) fair
-
-          pub records-placed : {f : RowsFound} → EdgesPlaced n (take m list) f → RecordsPlaced n edges f
-          records-placed {f} p =
-              subst (λ o. Placed n edges o f) (sym outcome) (subst (λ (l : List Edge). EdgesPlaced n l f) same p)
+        pub records-placed : {f : RowsFound} → EdgesPlaced n edges f → RecordsPlaced n edges f
+        records-placed {f} p = subst (λ o. Placed n edges o f) (sym outcome) p
 
 -- what the call promises
 pub record-call : (n : ℕ) (edges : List Edge) (f : RowsFound) (old new : List ℕ) (r : RowsAnswer) → RecordsPlaced n edges f
     → HandedOut (foundOf n f) old new r
-    → (r ≡ rowsAnswer (recordCall n edges old .answer)) × ((new ≡ recordCall n edges old .rows) × RecordsBest n edges r new)
+    → RecordsAnswered n edges old new r
 unfolding recordCall
 record-call n edges f old new r p h =
     let k : HandedOut (rowsOfRecords n edges) old new r = subst (λ o. HandedOut o old new r) (p .says) h in

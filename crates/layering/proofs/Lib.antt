@@ -14,4 +14,5 @@ pub mod RecordLaws
 pub mod PlaceLaws
 pub mod TotalLaws
 pub mod CallLaws
+pub mod LentLaws
 pub mod StarredLaws

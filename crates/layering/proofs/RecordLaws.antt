@@ -1,25 +1,23 @@
 -- Edges lent as a list of numbers: how many there are, which stands where, and how they are judged one after the other.
 use mathlib.Core.Path.{_≡_, refl, sym, ap, _∙_}
 use mathlib.Core.Bool.{Bool, true, false, not, _&&_}
-use mathlib.Core.List.{List, [], _∷_, _++_}
+use mathlib.Core.List.{List, [], _∷_}
 use Prim.Native.Nat.{ℕ, zero, suc, _+_, _*_, _/_, _≤_, _<_}
 use native.Mathlib.Nat.{not-suc-le-zero, le-of-suc-le-suc}
 use native.Mathlib.Numerals.{add-one}
 use native.Mathlib.Omega.{arith}
 use borrow.Author.Tests.{ltb-true, leb-true, eqb-false}
 use lib.Dec.{leb, ltb, eqb}
-use lib.ListN.{length, getD, take, drop, set, length-set}
-use lib.Seq.{drop-cons, take-suc, take-suc-set, take-all}
+use lib.ListN.{length, getD, take, drop}
+use lib.Seq.{drop-cons, length-take-le, getD-take}
 use Rattle.graph.specs.declared.Edge.{Edge}
 use Rattle.graph.specs.Rows.{at, noEdge}
 use Rattle.table.specs.declared.types.Refusal.{Refusal}
 use Rattle.table.specs.declared.types.Refusal.the-variants.{BadEnd, OutOfRange}
-use Rattle.table.specs.declared.types.Verdict.the-variants.{Accepted, Refused}
-use Rattle.table.specs.Limits.{maxEdges, minGap, maxGap, maxWeight}
+use Rattle.table.specs.Limits.{minGap, maxGap, maxWeight}
 use Rattle.table.specs.Refusal.{Outcome, done, refused, thenDo, demand}
 use Rattle.table.specs.Fair.{FairEdge}
 use Rattle.layering.specs.Calls.{recordsOf, endsGood, sizesGood, edgeJudged, recordsJudged}
-use Rattle.layering.specs.Placed.{Taken}
 
 -- ---- where they stand
 
@@ -104,59 +102,35 @@ judged-fair n [] p i h = absurd (not-suc-le-zero h)
 judged-fair n (e ∷ edges) p zero h = judged-fair-one n e (passed-first (edgeJudged n e) (recordsJudged n edges) p .0)
 judged-fair n (e ∷ edges) p (suc i) h = judged-fair n edges (passed-first (edgeJudged n e) (recordsJudged n edges) p .1) i (le-of-suc-le-suc h)
 
--- ---- a loop that takes them: the whole is what is left from here on
+-- ---- a loop that judges the first m edges of an array: the whole is what is left from here on
 
-pub record Taking (n : ℕ) (edges : List Edge) (i : ℕ) (list : List Edge) : Type 0 where
-  pub left : recordsJudged n edges ≡ recordsJudged n (drop i edges)
-  pub same : take i list ≡ take i edges
-  pub long : length list ≡ maxEdges
-  pub some : i ≤ length edges
+pub record Judging (n m : ℕ) (edges : List Edge) (i : ℕ) : Type 0 where
+  pub left : recordsJudged n (take m edges) ≡ recordsJudged n (drop i (take m edges))
+  pub count : length (take m edges) ≡ m
 
-module _ (n : ℕ) (edges : List Edge) where
-  pub taking-none : (list : List Edge) → length list ≡ maxEdges → Taking n edges 0 list
-  taking-none list l = record { left = refl; same = refl; long = l; some = omega arith }
+module _ (n m : ℕ) (edges : List Edge) where
+  pub judging-none : m ≤ length edges → Judging n m edges 0
+  judging-none h = record { left = refl; count = length-take-le m edges h }
 
-  module _ (i : ℕ) (list : List Edge) (t : Taking n edges i list) where
-    first : i < length edges → recordsJudged n edges ≡ thenDo (edgeJudged n (getD edges i noEdge)) (λ _. recordsJudged n (drop (suc i) edges))
+  module _ (i : ℕ) (j : Judging n m edges i) where
+    module _ (h : i < m) where
+      first : (o : Outcome (Unit {0})) → edgeJudged n (getD edges i noEdge) ≡ o
+          → recordsJudged n (take m edges) ≡ thenDo o (λ _. recordsJudged n (drop (suc i) (take m edges)))
+      unfolding recordsJudged
+      first o p =
+          j .left ∙ ap (recordsJudged n) (drop-cons (take m edges) i noEdge (omega (arith, j .count)))
+          ∙ ap (λ x. thenDo x (λ _. recordsJudged n (drop (suc i) (take m edges)))) (ap (edgeJudged n) (getD-take m edges i noEdge h) ∙ p)
+
+      pub judging-fault : {f : Refusal} → edgeJudged n (getD edges i noEdge) ≡ refused f → refused f ≡ recordsJudged n (take m edges)
+      judging-fault {f} p = sym (first (refused f) p)
+
+      pub judging-more : edgeJudged n (getD edges i noEdge) ≡ done tt → Judging n m edges (i + 1)
+      judging-more p = record { left = rw (add-one i) (first (done tt) p); count = j .count }
+
+    pub judging-all : m ≤ i → done tt ≡ recordsJudged n (take m edges)
     unfolding recordsJudged
-    first h = t .left ∙ ap (recordsJudged n) (drop-cons edges i noEdge h)
-
-    module _ (x : Edge) (h : i < length edges) (same : x ≡ getD edges i noEdge) where
-      pub taking-fault : {f : Refusal} → edgeJudged n x ≡ refused f → Taken n edges (Refused f) list
-      taking-fault {f} e =
-          record {
-            says = sym (first h ∙ ap (λ o. thenDo o (λ _. recordsJudged n (drop (suc i) edges))) (ap (edgeJudged n) (sym same) ∙ e));
-            there = λ a. never-accepted a;
-            long = t .long;
-          }
-        where
-          never-accepted : {X : Type 0} → Refused f ≡ Accepted → X
-          never-accepted a = let z : _≡_ {A = ℕ} 0 1 = cc in absurd (omega arith)
-
-      pub taking-more : length edges ≤ maxEdges → edgeJudged n x ≡ done tt → Taking n edges (i + 1) (set list i x)
-      taking-more few e =
-          record {
-            left = rw (add-one i) (first h ∙ ap (λ o. thenDo o (λ _. recordsJudged n (drop (suc i) edges))) (ap (edgeJudged n) (sym same) ∙ e));
-            same =
-                rw (add-one i)
-                (take-suc-set list i x (omega (arith, t .long)) ∙ ap (λ l. l ++ (x ∷ [])) (t .same)
-                ∙ ap (λ y. take i edges ++ (y ∷ [])) same ∙ sym (take-suc edges i noEdge h));
-            long = length-set list i x ∙ t .long;
-            some = omega arith;
-          }
-
-    pub taking-all : length edges ≤ i → Taken n edges Accepted list
-    unfolding recordsJudged
-    taking-all h =
-        record {
-          says = sym (t .left ∙ ap (recordsJudged n) (drop-all edges i h));
-          there = λ _. ap (λ k. take k list) same-count ∙ t .same ∙ take-all i edges h;
-          long = t .long;
-        }
+    judging-all h = sym (j .left ∙ ap (recordsJudged n) (drop-all (take m edges) i (omega (arith, j .count))))
       where
-        same-count : length edges ≡ i
-        same-count = omega (arith, t .some)
-
         drop-all : (l : List Edge) (k : ℕ) → length l ≤ k → drop k l ≡ []
         drop-all [] zero h = refl
         drop-all [] (suc k) h = refl

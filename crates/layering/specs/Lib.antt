@@ -4,4 +4,5 @@ pub mod Loops
 pub mod Scan
 pub mod Calls
 pub mod Placed
+pub mod Lent
 pub mod Starred

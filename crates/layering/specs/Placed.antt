@@ -15,7 +15,7 @@ use Rattle.table.specs.Fair.{FairEdge}
 use Rattle.layering.specs.declared.types.RowsAnswer.{RowsAnswer}
 use Rattle.layering.specs.declared.types.RowsFound.{RowsFound}
 use Rattle.layering.specs.Flat.{Ends}
-use Rattle.layering.specs.Calls.{rowsFound, rowsEnd, rowsAnswer, rowsOfTable, recordsJudged, rowsOfRecords}
+use Rattle.layering.specs.Calls.{rowsFound, rowsEnd, rowsAnswer, rowsOfTable, rowsOfRecords}
 
 -- an outcome by its verdict
 abbrev pub outcomeBy : {A : Type 0} → Verdict → A → Outcome A
@@ -85,12 +85,6 @@ EdgesPlaced n edges f = Placed n edges (rowsFound n edges) f
 pub record HandedOut (what : Outcome (List ℕ)) (old new : List ℕ) (r : RowsAnswer) : Type 0 where
   pub answer : r ≡ rowsAnswer (rowsEnd what old .answer)
   pub rows : new ≡ rowsEnd what old .rows
-
--- edges that were judged one by one lie in an array
-pub record Taken (n : ℕ) (edges : List Edge) (verdict : Verdict) (list : List Edge) : Type 0 where
-  pub says : outcomeBy verdict tt ≡ recordsJudged n edges
-  pub there : verdict ≡ Accepted → take (length edges) list ≡ edges
-  pub long : length list ≡ maxEdges
 
 -- the steps and edges of a table; none where it is refused
 abbrev pub contentsOf : Outcome Contents → Contents

@@ -3,7 +3,9 @@
 // Every call takes any input, ends, and has no condition. Its contract puts its answer and its buffer equal to what a definition of
 // specs/Calls.antt makes of the input, and says of the rows of an answer that they are the best.
 mod edges;
+mod lent;
 mod loops;
+mod numbers;
 mod place;
 mod records;
 mod settle;
@@ -11,13 +13,17 @@ mod store;
 mod total;
 pub mod types;
 
+use crate::lent::answer_lent;
+use crate::numbers::FIELDS;
+use crate::numbers::collect_numbers;
 use crate::place::place_edges;
 use crate::place::refuse_rows;
-use crate::records::place_records;
+use crate::records::collect_records;
 use crate::store::hand_out;
 use crate::types::Row;
 use crate::types::RowsAnswer;
 use crate::types::TableRows;
+use graph::Edge;
 use table::read_table;
 use table::types::Verdict;
 ghost use mathlib.Core.Path.{_≡_};
@@ -38,16 +44,26 @@ pub fn find_rows(bytes: &[u8], rows: &mut [Row]) -> RowsAnswer
     hand_out(found, placed.table.n, rows)
 }
 
-// The same for n steps and edges that are lent as a list of numbers, four to an edge: from, to, gap, weight; fewer than four left over
-// are no edge. Refuses too many steps, too many edges, each edge in turn by its ends, then by its gap and weight, then a loop, then a
-// short buffer.
-pub fn find_rows_of_records(n: usize, records: &[usize], rows: &mut [Row]) -> RowsAnswer
-    ensures { λ r. ⌜ r ≡ rowsAnswer (recordCall n (recordsOf (now (records .entry))) (now (rows .entry)) .answer) ⌝ }
-    ensures { λ _. ⌜ now (rows .exit) ≡ recordCall n (recordsOf (now (records .entry))) (now (rows .entry)) .rows ⌝ }
-    ensures { λ r. ⌜ RecordsBest n (recordsOf (now (records .entry))) r (now (rows .exit)) ⌝ }
+// The same for n steps and edges that are lent as a list of records. Refuses too many steps (4), too many edges (8), each edge in turn
+// by its ends (9), then by its gap and weight (6), then a loop (11), then a short buffer (13). Of a list longer than the limit no record
+// is read.
+pub fn find_rows_of_records(n: usize, records: &[Edge], rows: &mut [Row]) -> RowsAnswer
+    ensures { λ r. ⌜ r ≡ rowsAnswer (recordCall n (now (records .entry)) (now (rows .entry)) .answer) ⌝ }
+    ensures { λ _. ⌜ now (rows .exit) ≡ recordCall n (now (records .entry)) (now (rows .entry)) .rows ⌝ }
+    ensures { λ r. ⌜ RecordsBest n (now (records .entry)) r (now (rows .exit)) ⌝ }
 {
-    let found = place_records(n, records);
-    hand_out(found, n, rows)
+    let edges = collect_records(records);
+    answer_lent(n, edges, records.len(), rows)
+}
+
+// The same for edges that are lent as a list of numbers, four to an edge: from, to, gap, weight; fewer than four left over are no edge.
+pub fn find_rows_of_numbers(n: usize, numbers: &[usize], rows: &mut [Row]) -> RowsAnswer
+    ensures { λ r. ⌜ r ≡ rowsAnswer (recordCall n (recordsOf (now (numbers .entry))) (now (rows .entry)) .answer) ⌝ }
+    ensures { λ _. ⌜ now (rows .exit) ≡ recordCall n (recordsOf (now (numbers .entry))) (now (rows .entry)) .rows ⌝ }
+    ensures { λ r. ⌜ RecordsBest n (recordsOf (now (numbers .entry))) r (now (rows .exit)) ⌝ }
+{
+    let edges = collect_numbers(numbers);
+    answer_lent(n, edges, numbers.len() / FIELDS, rows)
 }
 
 // The table that the bytes write down, with its rows and their total: what a layer above builds on.

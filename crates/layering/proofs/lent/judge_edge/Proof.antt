@@ -1,8 +1,8 @@
 -- Each answer by the tests that led to it.
 use borrow.Author.Tests.{le-ltb, lt-ltb, le-leb, lt-leb, eq-eqb, ne-eqb}
 use Rattle.layering.specs.Calls.{edgeJudged}
-use Rattle.layering.proofs.records.judge_edge.Statement.{statement}
-use Rattle.layering.proofs.records.judge_edge.Tie as tie
+use Rattle.layering.proofs.lent.judge_edge.Statement.{statement}
+use Rattle.layering.proofs.lent.judge_edge.Tie as tie
 
 returns : tie.Need-returns
 unfolding edgeJudged

@@ -1,0 +1,110 @@
+// Lent edges, copied to an array: judged and placed.
+use crate::place::place_edges;
+use crate::place::refuse_rows;
+use crate::store::hand_out;
+use crate::types::Row;
+use crate::types::RowsAnswer;
+use crate::types::RowsFound;
+use graph::Edge;
+use table::limits::MAX_EDGES;
+use table::limits::MAX_GAP;
+use table::limits::MAX_STEPS;
+use table::limits::MAX_WEIGHT;
+use table::limits::MIN_GAP;
+use table::types::Refusal;
+use table::types::Verdict;
+ghost use mathlib.Core.Path.{_≡_};
+ghost use Prim.Native.Nat.{_≤_};
+ghost use lib.ListN.{length, take};
+ghost use Rattle.table.specs.Limits.{maxEdges};
+ghost use Rattle.layering.specs.Calls.{edgeJudged, recordsJudged};
+ghost use Rattle.layering.specs.Placed.{outcomeBy};
+ghost use Rattle.layering.specs.Lent.{copied, LentPlaced, LentAnswered};
+
+// How many of m lent edges are copied: all, or none of too many.
+pub fn count_copied(m: usize) -> usize
+    ensures { λ r. ⌜ r ≡ copied m ⌝ }
+{
+    if m <= MAX_EDGES {
+        return m;
+    }
+    0
+}
+
+// An array that no edge is copied to yet.
+pub fn blank_edges() -> [Edge; MAX_EDGES]
+    ensures { λ r. ⌜ length r ≡ maxEdges ⌝ }
+{
+    [Edge {
+        from: 0,
+        to: 0,
+        gap: 0,
+        weight: 0,
+    }; MAX_EDGES]
+}
+
+// The answer for n steps and m lent edges, and its rows in a buffer.
+pub fn answer_lent(n: usize, edges: [Edge; MAX_EDGES], m: usize, rows: &mut [Row]) -> RowsAnswer
+    requires { ⌜ length edges ≡ maxEdges ⌝ }
+    ensures { λ r. ⌜ LentAnswered n m edges (now (rows .entry)) (now (rows .exit)) r ⌝ }
+{
+    let found = place_lent(n, edges, m);
+    hand_out(found, n, rows)
+}
+
+// The rows of m lent edges, between n steps.
+fn place_lent(n: usize, edges: [Edge; MAX_EDGES], m: usize) -> RowsFound
+    requires { ⌜ length edges ≡ maxEdges ⌝ }
+    ensures { λ r. ⌜ LentPlaced n m edges r ⌝ }
+{
+    if MAX_STEPS < n {
+        return refuse_rows(Refusal::ManySteps);
+    }
+    if MAX_EDGES < m {
+        return refuse_rows(Refusal::ManyEdges);
+    }
+    match judge_edges(n, edges, m) {
+        Verdict::Refused(f) => refuse_rows(f),
+        Verdict::Accepted => place_edges(edges, m, n),
+    }
+}
+
+// The first m edges between n steps, each in turn: the first fault decides.
+fn judge_edges(n: usize, edges: [Edge; MAX_EDGES], m: usize) -> Verdict
+    requires { ⌜ (m ≤ maxEdges) × (length edges ≡ maxEdges) ⌝ }
+    ensures { λ r. ⌜ outcomeBy r tt ≡ recordsJudged n (take m edges) ⌝ }
+{
+    for i in 0..m {
+        let e = edges[i];
+        match judge_edge(n, e) {
+            Verdict::Refused(f) => return Verdict::Refused(f),
+            Verdict::Accepted => {}
+        }
+    }
+    Verdict::Accepted
+}
+
+// One edge between n steps: its ends, then its gap and its weight.
+fn judge_edge(n: usize, e: Edge) -> Verdict
+    ensures { λ r. ⌜ outcomeBy r tt ≡ edgeJudged n e ⌝ }
+{
+    if n <= e.from {
+        return Verdict::Refused(Refusal::BadEnd);
+    }
+    if n <= e.to {
+        return Verdict::Refused(Refusal::BadEnd);
+    }
+    if e.from == e.to {
+        return Verdict::Refused(Refusal::BadEnd);
+    }
+    if e.gap < MIN_GAP {
+        return Verdict::Refused(Refusal::OutOfRange);
+    }
+    if MAX_GAP < e.gap {
+        return Verdict::Refused(Refusal::OutOfRange);
+    }
+    if MAX_WEIGHT < e.weight {
+        return Verdict::Refused(Refusal::OutOfRange);
+    }
+    Verdict::Accepted
+}
