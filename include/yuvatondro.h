@@ -1,8 +1,8 @@
 /* Yuvatondro: the calls for C.
  *
  * Link libhost.a (rt staticlib host). A table is the bytes of docs/FORMAT.md. A slice is a pointer and a length in entries; where the
- * length is 0 the pointer is not followed. Buffers overlap neither each other nor the table or the records. Every call takes any bytes
- * and any lengths, ends, and keeps no state.
+ * length is 0 the pointer is not followed. No buffer shares memory with another, with the table or with the records. Every call
+ * takes any bytes and any lengths, ends, and keeps no state.
  *
  * An answer is one word. Its low byte is 0, or the number of the refusal, and then no buffer was changed. With refusal 11 the lowest
  * step that lies on a loop stands in the byte above. Entries of a buffer behind those that a call fills keep their content.
@@ -21,19 +21,19 @@ extern "C" {
  * then 14, or 11, 12, 13. */
 enum {
   YUVATONDRO_DONE = 0,
-  YUVATONDRO_CUT = 1,           /* the bytes end before the last due number or name is complete */
+  YUVATONDRO_CUT = 1,           /* the bytes end in the middle of the table */
   YUVATONDRO_OVERLONG = 2,      /* the third byte of a number has its high bit set */
   YUVATONDRO_BAD_EDITION = 3,   /* an edition other than 1 */
   YUVATONDRO_MANY_STEPS = 4,    /* more than YUVATONDRO_MAX_STEPS steps */
   YUVATONDRO_BAD_KIND = 5,      /* a kind above 2 */
-  YUVATONDRO_OUT_OF_RANGE = 6,  /* tolerance, minutes, name length, gap or weight */
+  YUVATONDRO_OUT_OF_RANGE = 6,  /* a number of a kind, a name's length, a gap or a weight */
   YUVATONDRO_BAD_NAME_BYTE = 7, /* a byte of a name outside 21 to 7E hexadecimal */
   YUVATONDRO_MANY_EDGES = 8,    /* more than YUVATONDRO_MAX_EDGES edges */
   YUVATONDRO_BAD_END = 9,       /* an end of an edge is no step, or both are the same */
   YUVATONDRO_SPARE = 10,        /* bytes follow the last edge */
   YUVATONDRO_LOOP = 11,         /* the edges form a loop: yuvatondro_loop_step tells the step */
   YUVATONDRO_MANY_POINTS = 12,  /* more than YUVATONDRO_MAX_POINTS points */
-  YUVATONDRO_SHORT_BUFFER = 13, /* a buffer has fewer entries than the call is to fill */
+  YUVATONDRO_SHORT_BUFFER = 13, /* a buffer is too short for what the call puts in it */
   YUVATONDRO_NO_STEP = 14       /* the table has no step of that number */
 };
 
@@ -61,8 +61,8 @@ uint64_t yuvatondro_rows(const uint8_t *table, size_t table_len, uint8_t *rows, 
  * over are no edge. Refuses by 4, 8, then each edge in turn by 9 and 6, then 11, 13. */
 uint64_t yuvatondro_records(size_t steps, const size_t *records, size_t numbers, uint8_t *rows, size_t rows_len);
 
-/* The whole chart of a table: its rows as above, and to `order` its points, row by row from row 0 and each row from left to right. Points
- * are the steps by number, then the dummies of the edges, by edge and then by rising row. Answers how many points there are, the
+/* The whole chart of a table: its rows as above, and to `order` its points, row by row from row 0 and each row from left to right. A
+ * step's point has the step's number; the dummies follow, by edge and then by rising row. Answers how many points there are, the
  * weighted total of the rows, and the crossings of the order. Refuses by 1 to 13. */
 uint64_t yuvatondro_chart(const uint8_t *table, size_t table_len, uint8_t *rows, size_t rows_len, uint16_t *order, size_t order_len);
 static inline unsigned yuvatondro_points(uint64_t chart) { return (unsigned)(chart >> 8 & 0x7FF); }

@@ -1,7 +1,7 @@
 -- The dummies of the edges from number i on are still to be written.
-use mathlib.Core.Path.{ap}
-use mathlib.Core.List.{map}
-use Prim.Native.Nat.{ℕ, _-_, _≤_}
+use mathlib.Core.Path.{_≡_, ap}
+use mathlib.Core.List.{_++_, map}
+use Prim.Native.Nat.{ℕ, _+_, _-_, _≤_}
 use native.Mathlib.Omega.{arith}
 use borrow.Author.Needs.{needs}
 use lib.ListN.{length, take, length-map}
@@ -18,6 +18,33 @@ Inv-loop m ys owners₀ rows₀ edges d₀ i₀ owners rows d i = (i ≤ m) × W
 
 abbrev μ-loop : tie.MeasureT-loop
 μ-loop m ys owners₀ rows₀ edges d₀ i₀ owners rows d i = m - i
+
+abbrev S : Type 0
+S = tie.Start Inv-loop μ-loop
+
+few : (c : S) → c .args .m ≤ length (c .args .t1)
+few c = omega (arith, c .pre .few, c .pre .long)
+
+abbrev start : tie.In-loop Inv-loop μ-loop → S
+start c = c .before .before .before .before .before
+
+-- a turn: the dummies of edge i are the next part
+owners-next : (c : tie.In-loop Inv-loop μ-loop) → let s = start c in let i = c .before .loop .i in
+    ownersOf (still (now (s .args .ys)) (s .args .t1) (s .args .m) i)
+    ≡ map (λ (_ : ℕ). i) (rowsBetween (now (s .args .ys)) (s .args .t1) (s .args .m) i) ++ ownersOf (later (now (s .args .ys)) (s .args .t1) (s .args .m) i)
+owners-next c = owners-turn (now (start c .args .ys)) (start c .args .t1) (start c .args .m) (c .before .loop .i) (few (start c)) (c .loop-test .taken)
+
+rows-next : (c : tie.In-loop Inv-loop μ-loop) → let s = start c in let i = c .before .loop .i in
+    rowsOf (still (now (s .args .ys)) (s .args .t1) (s .args .m) i)
+    ≡ rowsBetween (now (s .args .ys)) (s .args .t1) (s .args .m) i ++ rowsOf (later (now (s .args .ys)) (s .args .t1) (s .args .m) i)
+rows-next c = rows-turn (now (start c .args .ys)) (start c .args .t1) (start c .args .m) (c .before .loop .i) (few (start c)) (c .loop-test .taken)
+
+-- and there is room for them
+owners-room : (c : tie.In-loop Inv-loop μ-loop) → c .before .loop .d + length (map (λ (_ : ℕ). c .before .loop .i) (rowsBetween (now (start c .args .ys)) (start c .args .t1) (start c .args .m) (c .before .loop .i))) ≤ length (c .before .loop .owners)
+owners-room c = writing-room (map (λ (_ : ℕ). c .before .loop .i) (rowsBetween (now (start c .args .ys)) (start c .args .t1) (start c .args .m) (c .before .loop .i))) (ownersOf (later (now (start c .args .ys)) (start c .args .t1) (start c .args .m) (c .before .loop .i))) (owners-next c) (c .before .loop .inv .1)
+
+rows-room : (c : tie.In-loop Inv-loop μ-loop) → c .before .loop .d + length (rowsBetween (now (start c .args .ys)) (start c .args .t1) (start c .args .m) (c .before .loop .i)) ≤ length (c .before .loop .rows)
+rows-room c = writing-room (rowsBetween (now (start c .args .ys)) (start c .args .t1) (start c .args .m) (c .before .loop .i)) (rowsOf (later (now (start c .args .ys)) (start c .args .t1) (start c .args .m) (c .before .loop .i))) (rows-next c) (c .before .loop .inv .2)
 
 loop-holds : tie.Need-loop-holds Inv-loop μ-loop
 loop-holds c = let s = c .before .before .before .args in let p = c .before .before .before .pre in let ds = dummies (now (s .ys)) 0 (take (s .m) (s .t1)) in (omega arith, writing-start _ _ _ (omega (arith, p .owners-room, length-map ds (λ (d : Dummy). d .edge))), writing-start _ _ _ (omega (arith, p .rows-room, length-map ds (λ (d : Dummy). d .row))))
@@ -41,7 +68,7 @@ shared-slice-read-lay-edge-2 : tie.Need-shared-slice-read-lay-edge-2 Inv-loop μ
 shared-slice-read-lay-edge-2 c = c .before .before .before .before .before .before .before .before .pre .to-in _ (c .before .before .before .loop-test .taken)
 
 lay-edge-requires : tie.Need-lay-edge-requires Inv-loop μ-loop
-lay-edge-requires c κs = let s = c .before .before .before .before .before .before .before .before .before .before .args in let p = c .before .before .before .before .before .before .before .before .before .before .pre in let i = c .before .before .before .before .before .before .loop .i in let t = c .before .before .before .before .before .loop-test .taken in let fw : s .m ≤ length (s .t1) = omega (arith, p .few, p .long) in (p .down i t, (omega (arith, owners-length (now (s .ys)) (s .t1) (s .m) i, writing-room (map (λ (_ : ℕ). i) (rowsBetween (now (s .ys)) (s .t1) (s .m) i)) (ownersOf (later (now (s .ys)) (s .t1) (s .m) i)) (owners-turn (now (s .ys)) (s .t1) (s .m) i fw t) (c .before .before .before .before .before .before .loop .inv .1)), omega (arith, between-length (now (s .ys)) (s .t1) (s .m) i, writing-room (rowsBetween (now (s .ys)) (s .t1) (s .m) i) (rowsOf (later (now (s .ys)) (s .t1) (s .m) i)) (rows-turn (now (s .ys)) (s .t1) (s .m) i fw t) (c .before .before .before .before .before .before .loop .inv .2))))
+lay-edge-requires c κs = let l = c .before .before .before .before .before .before in let k = c .before .before .before .before .before in let s = c .before .before .before .before .before .before .before .before .before .before .args in (c .before .before .before .before .before .before .before .before .before .before .pre .down (l .loop .i) (k .loop-test .taken), (omega (arith, owners-length (now (s .ys)) (s .t1) (s .m) (l .loop .i), owners-room k), omega (arith, between-length (now (s .ys)) (s .t1) (s .m) (l .loop .i), rows-room k)))
 
 add-i : tie.Need-add-i Inv-loop μ-loop
 add-i c = search needs
@@ -50,7 +77,7 @@ loop-less : tie.Need-loop-less Inv-loop μ-loop
 loop-less c = search needs
 
 loop-again : tie.Need-loop-again Inv-loop μ-loop
-loop-again c = let s = c .before .before .before .before .before .before .before .before .before .before .before .before .before .before .before .args in let p = c .before .before .before .before .before .before .before .before .before .before .before .before .before .before .before .pre in let i = c .before .before .before .before .before .before .before .before .before .before .before .loop .i in let t = c .before .before .before .before .before .before .before .before .before .before .loop-test .taken in let fw : s .m ≤ length (s .t1) = omega (arith, p .few, p .long) in (omega arith, writing-part _ _ (owners-turn (now (s .ys)) (s .t1) (s .m) i fw t) (c .before .before .before .before .before .before .before .before .before .before .before .loop .inv .1) (c .before .before .before .before .lay-edge .ensures .0), writing-part _ _ (rows-turn (now (s .ys)) (s .t1) (s .m) i fw t) (c .before .before .before .before .before .before .before .before .before .before .before .loop .inv .2) (c .before .before .before .before .lay-edge .ensures .1))
+loop-again c = (omega arith, writing-part _ _ (owners-next (c .before .before .before .before .before .before .before .before .before .before)) (c .before .before .before .before .before .before .before .before .before .before .before .loop .inv .1) (c .before .before .before .before .lay-edge .ensures .0), writing-part _ _ (rows-next (c .before .before .before .before .before .before .before .before .before .before)) (c .before .before .before .before .before .before .before .before .before .before .before .loop .inv .2) (c .before .before .before .before .lay-edge .ensures .1))
 
 same-length : tie.Need-same-length Inv-loop μ-loop
 same-length c = writing-long (c .before .loop .inv .1)
@@ -59,7 +86,7 @@ same-length-2 : tie.Need-same-length-2 Inv-loop μ-loop
 same-length-2 c = writing-long (c .before .loop .inv .2)
 
 returns : tie.Need-returns Inv-loop μ-loop
-returns c = let s = c .before .before .before .before .before .args in let p = c .before .before .before .before .before .pre in let e = lay-end (now (s .ys)) (s .t1) (s .m) (c .before .loop .i) (omega (arith, p .few, p .long)) (c .loop-test .left) in (writing-end (ap ownersOf e) (c .before .loop .inv .1), writing-end (ap rowsOf e) (c .before .loop .inv .2))
+returns c = let s = c .before .before .before .before .before in let e = lay-end (now (s .args .ys)) (s .args .t1) (s .args .m) (c .before .loop .i) (few s) (c .loop-test .left) in (writing-end (ap ownersOf e) (c .before .loop .inv .1), writing-end (ap rowsOf e) (c .before .loop .inv .2))
 
 pub lay-dummies-spec : {M : Type 1} → statement M
 lay-dummies-spec =

@@ -1,7 +1,7 @@
 -- A row's line is its number, its points and its end.
 use mathlib.Core.Path.{ap}
-use mathlib.Core.List.{[], _∷_, _++_}
-use Prim.Native.Nat.{_+_, _≤_}
+use mathlib.Core.List.{List, [], _∷_, _++_}
+use Prim.Native.Nat.{ℕ, _+_, _≤_}
 use native.Mathlib.Omega.{arith}
 use lib.ListN.{length, drop}
 use denote.Ref.{now}
@@ -13,20 +13,32 @@ use borrow.Author.Needs.{needs}
 use Rattle.listing.proofs.lines.put_row.Statement.{statement}
 use Rattle.listing.proofs.lines.put_row.Tie as tie
 
+abbrev show-of : tie.Start → ℕ → List ℕ
+show-of c = labelText (now (c .args .bytes)) (c .args .steps) (length (now (c .args .ys))) (now (c .args .owners))
+
+abbrev rows-of : tie.Start → List ℕ
+rows-of c = now (c .args .ys) ++ now (c .args .rows)
+
+abbrev fields : tie.Start → List ℕ
+fields c = fieldsIn (show-of c) (rows-of c) (c .args .r) (drop (c .args .from) (now (c .args .order)))
+
+fits : (c : tie.Start) → c .args .at + length (decimal (c .args .r) ++ fields c ++ newline ∷ []) ≤ length (now (c .args .out))
+fits c = omega (arith, c .pre .1 .1, ap length (line-parts (rows-of c) (c .args .r) (now (c .args .order)) (c .args .from) (show-of c)))
+
 put-number-requires : tie.Need-put-number-requires
-put-number-requires c κs = let s = c .before .before .before .before .before .before .before .args in let ys = now (s .ys) ++ now (s .rows) in let show = labelText (now (s .bytes)) (s .steps) (length (now (s .ys))) (now (s .owners)) in let t = fieldsIn show ys (s .r) (drop (s .from) (now (s .order))) in let f : s .at + length (decimal (s .r) ++ t ++ newline ∷ []) ≤ length (now (s .out)) = omega (arith, c .before .before .before .before .before .before .before .pre .1 .1, ap length (line-parts ys (s .r) (now (s .order)) (s .from) show)) in room-one (now (s .out)) (s .at) (decimal (s .r)) t (newline ∷ []) f
+put-number-requires c κs = let s = c .before .before .before .before .before .before .before in room-one (now (s .args .out)) (s .args .at) (decimal (s .args .r)) (fields s) (newline ∷ []) (fits s)
 
 put-points-requires : tie.Need-put-points-requires
-put-points-requires c κs = let s = c .before .before .before .before .before .before .before .before .before .before .before .args in let ys = now (s .ys) ++ now (s .rows) in let show = labelText (now (s .bytes)) (s .steps) (length (now (s .ys))) (now (s .owners)) in let t = fieldsIn show ys (s .r) (drop (s .from) (now (s .order))) in let f : s .at + length (decimal (s .r) ++ t ++ newline ∷ []) ≤ length (now (s .out)) = omega (arith, c .before .before .before .before .before .before .before .before .before .before .before .pre .1 .1, ap length (line-parts ys (s .r) (now (s .order)) (s .from) show)) in (c .before .before .before .before .before .before .before .before .before .before .before .pre .0, (c .before .before .before .before .before .before .before .before .before .before .before .pre .1 .0, room-two (now (s .out)) (s .at) (decimal (s .r)) t (newline ∷ []) f _ _ (c .before .before .before .put-number .ensures)))
+put-points-requires c κs = let s = c .before .before .before .before .before .before .before .before .before .before .before in (s .pre .0, (s .pre .1 .0, room-two (now (s .args .out)) (s .args .at) (decimal (s .args .r)) (fields s) (newline ∷ []) (fits s) _ _ (c .before .before .before .put-number .ensures)))
 
 put-byte-requires : tie.Need-put-byte-requires
-put-byte-requires c κs = let s = c .before .before .before .before .before .before .before .before .before .before .before .before .before .before .before .args in let ys = now (s .ys) ++ now (s .rows) in let show = labelText (now (s .bytes)) (s .steps) (length (now (s .ys))) (now (s .owners)) in let t = fieldsIn show ys (s .r) (drop (s .from) (now (s .order))) in let f : s .at + length (decimal (s .r) ++ t ++ newline ∷ []) ≤ length (now (s .out)) = omega (arith, c .before .before .before .before .before .before .before .before .before .before .before .before .before .before .before .pre .1 .1, ap length (line-parts ys (s .r) (now (s .order)) (s .from) show)) in omega (arith, room-three (now (s .out)) (s .at) (decimal (s .r)) t (newline ∷ []) f _ _ (c .before .before .before .before .before .before .before .put-number .ensures) _ _ (c .before .before .before .put-points .ensures .0))
+put-byte-requires c κs = let s = c .before .before .before .before .before .before .before .before .before .before .before .before .before .before .before in omega (arith, room-three (now (s .args .out)) (s .args .at) (decimal (s .args .r)) (fields s) (newline ∷ []) (fits s) _ _ (c .before .before .before .before .before .before .before .put-number .ensures) _ _ (c .before .before .before .put-points .ensures .0))
 
 same-length : tie.Need-same-length
 same-length c = search needs
 
 returns : tie.Need-returns
-returns c = let s = c .before .before .before .before .before .before .before .before .before .before .before .before .before .before .before .before .before .before .args in let ys = now (s .ys) ++ now (s .rows) in let show = labelText (now (s .bytes)) (s .steps) (length (now (s .ys))) (now (s .owners)) in let t = fieldsIn show ys (s .r) (drop (s .from) (now (s .order))) in let f : s .at + length (decimal (s .r) ++ t ++ newline ∷ []) ≤ length (now (s .out)) = omega (arith, c .before .before .before .before .before .before .before .before .before .before .before .before .before .before .before .before .before .before .pre .1 .1, ap length (line-parts ys (s .r) (now (s .order)) (s .from) show)) in (line-stored ys (s .r) (now (s .order)) (s .from) show (stored-three (now (s .out)) (s .at) (decimal (s .r)) t (newline ∷ []) f _ _ (c .before .before .before .before .before .before .before .before .before .before .put-number .ensures) _ _ (c .before .before .before .before .before .before .put-points .ensures .0) _ _ (c .before .before .put-byte .ensures)), c .before .before .before .before .before .before .put-points .ensures .1)
+returns c = let s = c .before .before .before .before .before .before .before .before .before .before .before .before .before .before .before .before .before .before in (line-stored (rows-of s) (s .args .r) (now (s .args .order)) (s .args .from) (show-of s) (stored-three (now (s .args .out)) (s .args .at) (decimal (s .args .r)) (fields s) (newline ∷ []) (fits s) _ _ (c .before .before .before .before .before .before .before .before .before .before .put-number .ensures) _ _ (c .before .before .before .before .before .before .put-points .ensures .0) _ _ (c .before .before .put-byte .ensures)), c .before .before .before .before .before .before .put-points .ensures .1)
 
 pub put-row-spec : {M : Type 1} → statement M
 put-row-spec =

@@ -1,21 +1,52 @@
 -- The table opened: what its arrays hold is what its listing is made of.
+use mathlib.Core.Path.{_≡_}
+use mathlib.Core.List.{List}
+use Prim.Native.Nat.{_≤_}
 use native.Mathlib.Omega.{arith}
 use denote.Ref.{now}
-use lib.ListN.{take, replicate, length-map}
+use lib.ListN.{length, take, replicate, length-map}
 use Rattle.table.specs.Limits.{maxPoints}
 use Rattle.ordering.specs.Points.{Dummy, dummies}
-use Rattle.listing.specs.Printing.{ownersOf, rowsOf}
-use Rattle.listing.proofs.ChartedLaws.{opened}
+use Rattle.ordering.specs.Charting.{Storable}
+use Rattle.listing.specs.Printing.{ownersOf, rowsOf, Layable}
+use Rattle.listing.proofs.ChartedLaws.{Opened, opened}
 use Rattle.listing.proofs.PageLaws.{page-layable, page-sheet, page-head, page-rows, page-stored, stored-front, front-long}
 use borrow.Author.Needs.{needs}
 use Rattle.listing.proofs.page.print_chart.Statement.{statement}
 use Rattle.listing.proofs.page.print_chart.Tie as tie
 
+-- what the arrays hold
+open-of : (c : tie.Start) → Opened (now (c .args .bytes)) (c .args .table) (c .args .found)
+open-of c = opened (now (c .args .bytes)) (c .args .table) (c .args .found) (c .pre .0) (c .pre .1 .0) (c .pre .1 .1 .0)
+
+storable-of : (c : tie.Start) → Storable (c .args .found)
+storable-of c = c .pre .1 .0 .handable .storable (c .pre .1 .1 .0)
+
+rows-long : (c : tie.Start) → c .args .table .n ≤ length (c .args .found .rows)
+rows-long c = omega (arith, open-of c .f-n, storable-of c .few-rows)
+
+-- the dummies, and that there is room for them
+abbrev dummies-of : tie.Start → List Dummy
+dummies-of c = dummies (take (c .args .table .n) (c .args .found .rows)) 0 (take (c .args .table .m) (c .args .table .edges))
+
+layable : (c : tie.Start) → Layable (c .args .table .edges) (c .args .table .m) (take (c .args .table .n) (c .args .found .rows)) (replicate maxPoints 0) (replicate maxPoints 0)
+layable c = page-layable (now (c .args .bytes)) (c .args .table) (c .args .found) (open-of c) (replicate maxPoints 0) (replicate maxPoints 0) (omega arith) (omega arith)
+
+abbrev start : tie.After-lay-dummies → tie.Start
+start c = c .before .before .before .before .before .before .before .before .before .before
+
+-- laid, they are the first entries of their arrays
+owners-laid : (c : tie.After-lay-dummies) → (c .lay-dummies .result ≤ length (c .lay-dummies .last .1 .1 .1 .0)) × (take (c .lay-dummies .result) (c .lay-dummies .last .1 .1 .1 .0) ≡ ownersOf (dummies-of (start c)))
+owners-laid c = stored-front (replicate maxPoints 0) (ownersOf (dummies-of (start c))) _ _ (omega (arith, layable (start c) .owners-room, length-map (dummies-of (start c)) (λ (d : Dummy). d .edge))) (c .lay-dummies .ensures .0)
+
+rows-laid : (c : tie.After-lay-dummies) → (c .lay-dummies .result ≤ length (c .lay-dummies .last .1 .1 .1 .1 .0)) × (take (c .lay-dummies .result) (c .lay-dummies .last .1 .1 .1 .1 .0) ≡ rowsOf (dummies-of (start c)))
+rows-laid c = stored-front (replicate maxPoints 0) (rowsOf (dummies-of (start c))) _ _ (omega (arith, layable (start c) .rows-room, length-map (dummies-of (start c)) (λ (d : Dummy). d .row))) (c .lay-dummies .ensures .1)
+
 array-share-prefix-found-rows : tie.Need-array-share-prefix-found-rows
-array-share-prefix-found-rows c = let s = c .before .before .before .before .before .before .args in let b = now (s .bytes) in let o = opened b (s .table) (s .found) (c .before .before .before .before .before .before .pre .0) (c .before .before .before .before .before .before .pre .1 .0) (c .before .before .before .before .before .before .pre .1 .1 .0) in let g = c .before .before .before .before .before .before .pre .1 .0 .handable .storable (c .before .before .before .before .before .before .pre .1 .1 .0) in omega (arith, o .f-n, g .few-rows)
+array-share-prefix-found-rows c = rows-long (c .before .before .before .before .before .before)
 
 slice-aggregate-ys : tie.Need-slice-aggregate-ys
-slice-aggregate-ys c = let s = c .before .before .before .before .before .before .before .args in let b = now (s .bytes) in let o = opened b (s .table) (s .found) (c .before .before .before .before .before .before .before .pre .0) (c .before .before .before .before .before .before .before .pre .1 .0) (c .before .before .before .before .before .before .before .pre .1 .1 .0) in let g = c .before .before .before .before .before .before .before .pre .1 .0 .handable .storable (c .before .before .before .before .before .before .before .pre .1 .1 .0) in front-long _ _ (omega (arith, o .f-n, g .few-rows))
+slice-aggregate-ys c = front-long _ _ (rows-long (c .before .before .before .before .before .before .before))
 
 slice-aggregate-lay-dummies : tie.Need-slice-aggregate-lay-dummies
 slice-aggregate-lay-dummies c = search needs
@@ -24,7 +55,7 @@ slice-aggregate-lay-dummies-2 : tie.Need-slice-aggregate-lay-dummies-2
 slice-aggregate-lay-dummies-2 c = search needs
 
 lay-dummies-requires : tie.Need-lay-dummies-requires
-lay-dummies-requires c κs = let s = c .before .before .before .before .before .before .before .before .before .args in let b = now (s .bytes) in let o = opened b (s .table) (s .found) (c .before .before .before .before .before .before .before .before .before .pre .0) (c .before .before .before .before .before .before .before .before .before .pre .1 .0) (c .before .before .before .before .before .before .before .before .before .pre .1 .1 .0) in let g = c .before .before .before .before .before .before .before .before .before .pre .1 .0 .handable .storable (c .before .before .before .before .before .before .before .before .before .pre .1 .1 .0) in page-layable b (s .table) (s .found) o _ _ (omega arith) (omega arith)
+lay-dummies-requires c κs = layable (c .before .before .before .before .before .before .before .before .before)
 
 slice-aggregate-put-line : tie.Need-slice-aggregate-put-line
 slice-aggregate-put-line c = search needs
@@ -33,34 +64,34 @@ slice-aggregate-put-line-2 : tie.Need-slice-aggregate-put-line-2
 slice-aggregate-put-line-2 c = search needs
 
 put-line-requires : tie.Need-put-line-requires
-put-line-requires c κs = let s = c .before .before .before .before .before .before .before .before .before .before .before .before .before .before .before .args in let b = now (s .bytes) in let o = opened b (s .table) (s .found) (c .before .before .before .before .before .before .before .before .before .before .before .before .before .before .before .pre .0) (c .before .before .before .before .before .before .before .before .before .before .before .before .before .before .before .pre .1 .0) (c .before .before .before .before .before .before .before .before .before .before .before .before .before .before .before .pre .1 .1 .0) in let g = c .before .before .before .before .before .before .before .before .before .before .before .before .before .before .before .pre .1 .0 .handable .storable (c .before .before .before .before .before .before .before .before .before .before .before .before .before .before .before .pre .1 .1 .0) in let y = page-layable b (s .table) (s .found) o (replicate maxPoints 0) (replicate maxPoints 0) (omega arith) (omega arith) in let ds = dummies (take (s .table .n) (s .found .rows)) 0 (take (s .table .m) (s .table .edges)) in let eo = stored-front (replicate maxPoints 0) (ownersOf ds) _ _ (omega (arith, y .owners-room, length-map ds (λ (d : Dummy). d .edge))) (c .before .before .before .before .before .lay-dummies .ensures .0) in let er = stored-front (replicate maxPoints 0) (rowsOf ds) _ _ (omega (arith, y .rows-room, length-map ds (λ (d : Dummy). d .row))) (c .before .before .before .before .before .lay-dummies .ensures .1) in page-head b (s .table) (s .found) o _ _ (eo .1) (er .1) (now (s .page)) (c .before .before .before .before .before .before .before .before .before .before .before .before .before .before .before .pre .1 .1 .1)
+put-line-requires c κs = let s = c .before .before .before .before .before .before .before .before .before .before .before .before .before .before .before in page-head _ _ _ (open-of s) _ _ (owners-laid (c .before .before .before .before .before) .1) (rows-laid (c .before .before .before .before .before) .1) (now (s .args .page)) (s .pre .1 .1 .1)
 
 array-share-prefix-owners : tie.Need-array-share-prefix-owners
-array-share-prefix-owners c = let s = c .before .before .before .before .before .before .before .before .before .before .before .before .before .before .before .before .before .before .args in let b = now (s .bytes) in let o = opened b (s .table) (s .found) (c .before .before .before .before .before .before .before .before .before .before .before .before .before .before .before .before .before .before .pre .0) (c .before .before .before .before .before .before .before .before .before .before .before .before .before .before .before .before .before .before .pre .1 .0) (c .before .before .before .before .before .before .before .before .before .before .before .before .before .before .before .before .before .before .pre .1 .1 .0) in let g = c .before .before .before .before .before .before .before .before .before .before .before .before .before .before .before .before .before .before .pre .1 .0 .handable .storable (c .before .before .before .before .before .before .before .before .before .before .before .before .before .before .before .before .before .before .pre .1 .1 .0) in let y = page-layable b (s .table) (s .found) o (replicate maxPoints 0) (replicate maxPoints 0) (omega arith) (omega arith) in let ds = dummies (take (s .table .n) (s .found .rows)) 0 (take (s .table .m) (s .table .edges)) in let eo = stored-front (replicate maxPoints 0) (ownersOf ds) _ _ (omega (arith, y .owners-room, length-map ds (λ (d : Dummy). d .edge))) (c .before .before .before .before .before .before .before .before .lay-dummies .ensures .0) in let er = stored-front (replicate maxPoints 0) (rowsOf ds) _ _ (omega (arith, y .rows-room, length-map ds (λ (d : Dummy). d .row))) (c .before .before .before .before .before .before .before .before .lay-dummies .ensures .1) in eo .0
+array-share-prefix-owners c = owners-laid (c .before .before .before .before .before .before .before .before) .0
 
 slice-aggregate-put-rows : tie.Need-slice-aggregate-put-rows
-slice-aggregate-put-rows c = let s = c .before .before .before .before .before .before .before .before .before .before .before .before .before .before .before .before .before .before .before .args in let b = now (s .bytes) in let o = opened b (s .table) (s .found) (c .before .before .before .before .before .before .before .before .before .before .before .before .before .before .before .before .before .before .before .pre .0) (c .before .before .before .before .before .before .before .before .before .before .before .before .before .before .before .before .before .before .before .pre .1 .0) (c .before .before .before .before .before .before .before .before .before .before .before .before .before .before .before .before .before .before .before .pre .1 .1 .0) in let g = c .before .before .before .before .before .before .before .before .before .before .before .before .before .before .before .before .before .before .before .pre .1 .0 .handable .storable (c .before .before .before .before .before .before .before .before .before .before .before .before .before .before .before .before .before .before .before .pre .1 .1 .0) in let y = page-layable b (s .table) (s .found) o (replicate maxPoints 0) (replicate maxPoints 0) (omega arith) (omega arith) in let ds = dummies (take (s .table .n) (s .found .rows)) 0 (take (s .table .m) (s .table .edges)) in let eo = stored-front (replicate maxPoints 0) (ownersOf ds) _ _ (omega (arith, y .owners-room, length-map ds (λ (d : Dummy). d .edge))) (c .before .before .before .before .before .before .before .before .before .lay-dummies .ensures .0) in let er = stored-front (replicate maxPoints 0) (rowsOf ds) _ _ (omega (arith, y .rows-room, length-map ds (λ (d : Dummy). d .row))) (c .before .before .before .before .before .before .before .before .before .lay-dummies .ensures .1) in front-long _ _ (eo .0)
+slice-aggregate-put-rows c = front-long _ _ (owners-laid (c .before .before .before .before .before .before .before .before .before) .0)
 
 array-share-prefix-rows : tie.Need-array-share-prefix-rows
-array-share-prefix-rows c = let s = c .before .before .before .before .before .before .before .before .before .before .before .before .before .before .before .before .before .before .before .args in let b = now (s .bytes) in let o = opened b (s .table) (s .found) (c .before .before .before .before .before .before .before .before .before .before .before .before .before .before .before .before .before .before .before .pre .0) (c .before .before .before .before .before .before .before .before .before .before .before .before .before .before .before .before .before .before .before .pre .1 .0) (c .before .before .before .before .before .before .before .before .before .before .before .before .before .before .before .before .before .before .before .pre .1 .1 .0) in let g = c .before .before .before .before .before .before .before .before .before .before .before .before .before .before .before .before .before .before .before .pre .1 .0 .handable .storable (c .before .before .before .before .before .before .before .before .before .before .before .before .before .before .before .before .before .before .before .pre .1 .1 .0) in let y = page-layable b (s .table) (s .found) o (replicate maxPoints 0) (replicate maxPoints 0) (omega arith) (omega arith) in let ds = dummies (take (s .table .n) (s .found .rows)) 0 (take (s .table .m) (s .table .edges)) in let eo = stored-front (replicate maxPoints 0) (ownersOf ds) _ _ (omega (arith, y .owners-room, length-map ds (λ (d : Dummy). d .edge))) (c .before .before .before .before .before .before .before .before .before .lay-dummies .ensures .0) in let er = stored-front (replicate maxPoints 0) (rowsOf ds) _ _ (omega (arith, y .rows-room, length-map ds (λ (d : Dummy). d .row))) (c .before .before .before .before .before .before .before .before .before .lay-dummies .ensures .1) in er .0
+array-share-prefix-rows c = rows-laid (c .before .before .before .before .before .before .before .before .before) .0
 
 slice-aggregate-put-rows-2 : tie.Need-slice-aggregate-put-rows-2
-slice-aggregate-put-rows-2 c = let s = c .before .before .before .before .before .before .before .before .before .before .before .before .before .before .before .before .before .before .before .before .args in let b = now (s .bytes) in let o = opened b (s .table) (s .found) (c .before .before .before .before .before .before .before .before .before .before .before .before .before .before .before .before .before .before .before .before .pre .0) (c .before .before .before .before .before .before .before .before .before .before .before .before .before .before .before .before .before .before .before .before .pre .1 .0) (c .before .before .before .before .before .before .before .before .before .before .before .before .before .before .before .before .before .before .before .before .pre .1 .1 .0) in let g = c .before .before .before .before .before .before .before .before .before .before .before .before .before .before .before .before .before .before .before .before .pre .1 .0 .handable .storable (c .before .before .before .before .before .before .before .before .before .before .before .before .before .before .before .before .before .before .before .before .pre .1 .1 .0) in let y = page-layable b (s .table) (s .found) o (replicate maxPoints 0) (replicate maxPoints 0) (omega arith) (omega arith) in let ds = dummies (take (s .table .n) (s .found .rows)) 0 (take (s .table .m) (s .table .edges)) in let eo = stored-front (replicate maxPoints 0) (ownersOf ds) _ _ (omega (arith, y .owners-room, length-map ds (λ (d : Dummy). d .edge))) (c .before .before .before .before .before .before .before .before .before .before .lay-dummies .ensures .0) in let er = stored-front (replicate maxPoints 0) (rowsOf ds) _ _ (omega (arith, y .rows-room, length-map ds (λ (d : Dummy). d .row))) (c .before .before .before .before .before .before .before .before .before .before .lay-dummies .ensures .1) in front-long _ _ (er .0)
+slice-aggregate-put-rows-2 c = front-long _ _ (rows-laid (c .before .before .before .before .before .before .before .before .before .before) .0)
 
 array-share-prefix-order : tie.Need-array-share-prefix-order
-array-share-prefix-order c = let s = c .before .before .before .before .before .before .before .before .before .before .before .before .before .before .before .before .before .before .before .before .args in let b = now (s .bytes) in let o = opened b (s .table) (s .found) (c .before .before .before .before .before .before .before .before .before .before .before .before .before .before .before .before .before .before .before .before .pre .0) (c .before .before .before .before .before .before .before .before .before .before .before .before .before .before .before .before .before .before .before .before .pre .1 .0) (c .before .before .before .before .before .before .before .before .before .before .before .before .before .before .before .before .before .before .before .before .pre .1 .1 .0) in let g = c .before .before .before .before .before .before .before .before .before .before .before .before .before .before .before .before .before .before .before .before .pre .1 .0 .handable .storable (c .before .before .before .before .before .before .before .before .before .before .before .before .before .before .before .before .before .before .before .before .pre .1 .1 .0) in g .few-points
+array-share-prefix-order c = storable-of (c .before .before .before .before .before .before .before .before .before .before .before .before .before .before .before .before .before .before .before .before) .few-points
 
 slice-aggregate-put-rows-3 : tie.Need-slice-aggregate-put-rows-3
-slice-aggregate-put-rows-3 c = let s = c .before .before .before .before .before .before .before .before .before .before .before .before .before .before .before .before .before .before .before .before .before .args in let b = now (s .bytes) in let o = opened b (s .table) (s .found) (c .before .before .before .before .before .before .before .before .before .before .before .before .before .before .before .before .before .before .before .before .before .pre .0) (c .before .before .before .before .before .before .before .before .before .before .before .before .before .before .before .before .before .before .before .before .before .pre .1 .0) (c .before .before .before .before .before .before .before .before .before .before .before .before .before .before .before .before .before .before .before .before .before .pre .1 .1 .0) in let g = c .before .before .before .before .before .before .before .before .before .before .before .before .before .before .before .before .before .before .before .before .before .pre .1 .0 .handable .storable (c .before .before .before .before .before .before .before .before .before .before .before .before .before .before .before .before .before .before .before .before .before .pre .1 .1 .0) in front-long _ _ (g .few-points)
+slice-aggregate-put-rows-3 c = front-long _ _ (storable-of (c .before .before .before .before .before .before .before .before .before .before .before .before .before .before .before .before .before .before .before .before .before) .few-points)
 
 put-rows-requires : tie.Need-put-rows-requires
-put-rows-requires c κs = let s = c .before .before .before .before .before .before .before .before .before .before .before .before .before .before .before .before .before .before .before .before .before .before .args in let b = now (s .bytes) in let o = opened b (s .table) (s .found) (c .before .before .before .before .before .before .before .before .before .before .before .before .before .before .before .before .before .before .before .before .before .before .pre .0) (c .before .before .before .before .before .before .before .before .before .before .before .before .before .before .before .before .before .before .before .before .before .before .pre .1 .0) (c .before .before .before .before .before .before .before .before .before .before .before .before .before .before .before .before .before .before .before .before .before .before .pre .1 .1 .0) in let g = c .before .before .before .before .before .before .before .before .before .before .before .before .before .before .before .before .before .before .before .before .before .before .pre .1 .0 .handable .storable (c .before .before .before .before .before .before .before .before .before .before .before .before .before .before .before .before .before .before .before .before .before .before .pre .1 .1 .0) in let y = page-layable b (s .table) (s .found) o (replicate maxPoints 0) (replicate maxPoints 0) (omega arith) (omega arith) in let ds = dummies (take (s .table .n) (s .found .rows)) 0 (take (s .table .m) (s .table .edges)) in let eo = stored-front (replicate maxPoints 0) (ownersOf ds) _ _ (omega (arith, y .owners-room, length-map ds (λ (d : Dummy). d .edge))) (c .before .before .before .before .before .before .before .before .before .before .before .before .lay-dummies .ensures .0) in let er = stored-front (replicate maxPoints 0) (rowsOf ds) _ _ (omega (arith, y .rows-room, length-map ds (λ (d : Dummy). d .row))) (c .before .before .before .before .before .before .before .before .before .before .before .before .lay-dummies .ensures .1) in (page-sheet b (s .table) (s .found) o _ _ (eo .1) (er .1), page-rows b (s .table) (s .found) o _ _ (eo .1) (er .1) (now (s .page)) (c .before .before .before .before .before .before .before .before .before .before .before .before .before .before .before .before .before .before .before .before .before .before .pre .1 .1 .1) _ _ (c .before .before .before .before .before .before .put-line .ensures))
+put-rows-requires c κs = let s = c .before .before .before .before .before .before .before .before .before .before .before .before .before .before .before .before .before .before .before .before .before .before in let l = c .before .before .before .before .before .before .before .before .before .before .before .before in (page-sheet _ _ _ (open-of s) _ _ (owners-laid l .1) (rows-laid l .1), page-rows _ _ _ (open-of s) _ _ (owners-laid l .1) (rows-laid l .1) (now (s .args .page)) (s .pre .1 .1 .1) _ _ (c .before .before .before .before .before .before .put-line .ensures))
 
 same-length : tie.Need-same-length
 same-length c = search needs
 
 returns : tie.Need-returns
-returns c = let s = c .before .before .before .before .before .before .before .before .before .before .before .before .before .before .before .before .before .before .before .before .before .before .before .before .before .args in let b = now (s .bytes) in let o = opened b (s .table) (s .found) (c .before .before .before .before .before .before .before .before .before .before .before .before .before .before .before .before .before .before .before .before .before .before .before .before .before .pre .0) (c .before .before .before .before .before .before .before .before .before .before .before .before .before .before .before .before .before .before .before .before .before .before .before .before .before .pre .1 .0) (c .before .before .before .before .before .before .before .before .before .before .before .before .before .before .before .before .before .before .before .before .before .before .before .before .before .pre .1 .1 .0) in let g = c .before .before .before .before .before .before .before .before .before .before .before .before .before .before .before .before .before .before .before .before .before .before .before .before .before .pre .1 .0 .handable .storable (c .before .before .before .before .before .before .before .before .before .before .before .before .before .before .before .before .before .before .before .before .before .before .before .before .before .pre .1 .1 .0) in let y = page-layable b (s .table) (s .found) o (replicate maxPoints 0) (replicate maxPoints 0) (omega arith) (omega arith) in let ds = dummies (take (s .table .n) (s .found .rows)) 0 (take (s .table .m) (s .table .edges)) in let eo = stored-front (replicate maxPoints 0) (ownersOf ds) _ _ (omega (arith, y .owners-room, length-map ds (λ (d : Dummy). d .edge))) (c .before .before .before .before .before .before .before .before .before .before .before .before .before .before .before .lay-dummies .ensures .0) in let er = stored-front (replicate maxPoints 0) (rowsOf ds) _ _ (omega (arith, y .rows-room, length-map ds (λ (d : Dummy). d .row))) (c .before .before .before .before .before .before .before .before .before .before .before .before .before .before .before .lay-dummies .ensures .1) in page-stored b (s .table) (s .found) o _ _ (eo .1) (er .1) (now (s .page)) (c .before .before .before .before .before .before .before .before .before .before .before .before .before .before .before .before .before .before .before .before .before .before .before .before .before .pre .1 .1 .1) _ _ (c .before .before .before .before .before .before .before .before .before .put-line .ensures) _ _ (c .before .before .put-rows .ensures)
+returns c = let s = c .before .before .before .before .before .before .before .before .before .before .before .before .before .before .before .before .before .before .before .before .before .before .before .before .before in page-stored _ _ _ (open-of s) _ _ (owners-laid (c .before .before .before .before .before .before .before .before .before .before .before .before .before .before .before) .1) (rows-laid (c .before .before .before .before .before .before .before .before .before .before .before .before .before .before .before) .1) (now (s .args .page)) (s .pre .1 .1 .1) _ _ (c .before .before .before .before .before .before .before .before .before .put-line .ensures) _ _ (c .before .before .put-rows .ensures)
 
 pub print-chart-spec : {M : Type 1} → statement M
 print-chart-spec =

@@ -17,7 +17,7 @@ array-copy-out-step : tie.Need-array-copy-out-step
 array-copy-out-step c = search needs
 
 put-step-requires : tie.Need-put-step-requires
-put-step-requires c κs = let s = c .before .before .before .before .before .before .before .before .before .before .args in (c .before .before .before .before .before .before .before .before .before .before .pre .0 .name (c .before .before .if1 .taken), room-behind (now (s .out)) (s .at) blank _ _ (label-step (now (s .bytes)) (s .t2) (s .n) (now (s .owners)) (s .p) (c .before .before .if1 .taken)) (c .before .before .before .before .before .put-byte .ensures) (c .before .before .before .before .before .before .before .before .before .before .pre .1))
+put-step-requires c κs = let l = c .before .before .before .before .before .before .before .before .before .before in let s = l .args in (l .pre .0 .name (c .before .before .if1 .taken), room-behind (now (s .out)) (s .at) blank _ _ (label-step (now (s .bytes)) (s .t2) (s .n) (now (s .owners)) (s .p) (c .before .before .if1 .taken)) (c .before .before .before .before .before .put-byte .ensures) (l .pre .1))
 
 same-length : tie.Need-same-length
 same-length c = search needs

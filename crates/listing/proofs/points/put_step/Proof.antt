@@ -1,5 +1,7 @@
 -- A name, a sign and a kind.
 use mathlib.Core.Path.{ap}
+use mathlib.Core.List.{List}
+use Prim.Native.Nat.{ℕ}
 use native.Mathlib.Omega.{arith}
 use lib.ListN.{length, take, drop}
 use denote.Ref.{now}
@@ -9,6 +11,12 @@ use Rattle.listing.proofs.PutLaws.{room-one, room-two, room-three, stor
 use borrow.Author.Needs.{needs}
 use Rattle.listing.proofs.points.put_step.Statement.{statement}
 use Rattle.listing.proofs.points.put_step.Tie as tie
+
+abbrev name : tie.Start → List ℕ
+name c = take (c .args .step .len) (drop (c .args .step .start) (now (c .args .bytes)))
+
+abbrev kind : tie.Start → List ℕ
+kind c = kindText (c .args .step .kind)
 
 add-end : tie.Need-add-end
 add-end c = search needs
@@ -23,19 +31,19 @@ part-put-text-end : tie.Need-part-put-text-end
 part-put-text-end c = search needs
 
 put-text-requires : tie.Need-put-text-requires
-put-text-requires c κs = let s = c .before .before .before .before .before .args in let b = now (s .bytes) in omega (arith, ap length (name-part b (s .step .start) (s .step .len)), room-one (now (s .out)) (s .at) (take (s .step .len) (drop (s .step .start) b)) (text "=") (kindText (s .step .kind)) (c .before .before .before .before .before .pre .1))
+put-text-requires c κs = let s = c .before .before .before .before .before in omega (arith, ap length (name-part (now (s .args .bytes)) (s .args .step .start) (s .args .step .len)), room-one (now (s .args .out)) (s .args .at) (name s) (text "=") (kind s) (s .pre .1))
 
 put-byte-requires : tie.Need-put-byte-requires
-put-byte-requires c κs = let s = c .before .before .before .before .before .before .before .before .before .args in let b = now (s .bytes) in let n = take (s .step .len) (drop (s .step .start) b) in let k = kindText (s .step .kind) in let t = stored-name b (s .step .start) (s .step .len) (c .before .before .before .put-text .ensures) in omega (arith, room-two (now (s .out)) (s .at) n (text "=") k (c .before .before .before .before .before .before .before .before .before .pre .1) _ _ t)
+put-byte-requires c κs = let s = c .before .before .before .before .before .before .before .before .before in omega (arith, room-two (now (s .args .out)) (s .args .at) (name s) (text "=") (kind s) (s .pre .1) _ _ (stored-name (now (s .args .bytes)) (s .args .step .start) (s .args .step .len) (c .before .before .before .put-text .ensures)))
 
 put-kind-requires : tie.Need-put-kind-requires
-put-kind-requires c κs = let s = c .before .before .before .before .before .before .before .before .before .before .before .before .before .args in let b = now (s .bytes) in let n = take (s .step .len) (drop (s .step .start) b) in let k = kindText (s .step .kind) in let t = stored-name b (s .step .start) (s .step .len) (c .before .before .before .before .before .before .before .put-text .ensures) in room-three (now (s .out)) (s .at) n (text "=") k (c .before .before .before .before .before .before .before .before .before .before .before .before .before .pre .1) _ _ t _ _ (c .before .before .before .put-byte .ensures)
+put-kind-requires c κs = let s = c .before .before .before .before .before .before .before .before .before .before .before .before .before in room-three (now (s .args .out)) (s .args .at) (name s) (text "=") (kind s) (s .pre .1) _ _ (stored-name (now (s .args .bytes)) (s .args .step .start) (s .args .step .len) (c .before .before .before .before .before .before .before .put-text .ensures)) _ _ (c .before .before .before .put-byte .ensures)
 
 same-length : tie.Need-same-length
 same-length c = search needs
 
 returns : tie.Need-returns
-returns c = let s = c .before .before .before .before .before .before .before .before .before .before .before .before .before .before .before .before .args in let b = now (s .bytes) in let n = take (s .step .len) (drop (s .step .start) b) in let k = kindText (s .step .kind) in let t = stored-name b (s .step .start) (s .step .len) (c .before .before .before .before .before .before .before .before .before .before .put-text .ensures) in stored-three (now (s .out)) (s .at) n (text "=") k (c .before .before .before .before .before .before .before .before .before .before .before .before .before .before .before .before .pre .1) _ _ t _ _ (c .before .before .before .before .before .before .put-byte .ensures) _ _ (c .before .before .put-kind .ensures)
+returns c = let s = c .before .before .before .before .before .before .before .before .before .before .before .before .before .before .before .before in stored-three (now (s .args .out)) (s .args .at) (name s) (text "=") (kind s) (s .pre .1) _ _ (stored-name (now (s .args .bytes)) (s .args .step .start) (s .args .step .len) (c .before .before .before .before .before .before .before .before .before .before .put-text .ensures)) _ _ (c .before .before .before .before .before .before .put-byte .ensures) _ _ (c .before .before .put-kind .ensures)
 
 pub put-step-spec : {M : Type 1} → statement M
 put-step-spec =

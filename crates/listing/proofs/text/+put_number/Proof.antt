@@ -69,7 +69,7 @@ put-number-put-number-requires : (t : ℕ) → put-number-lts.Need-put-number-re
   put-number-below t,
   put-number.Post,
 ) (put-number-at t) put-number.Post
-put-number-put-number-requires t c κs = (omega (arith, c .before .if1 .left, c .before .before .before .pre .0), room-tens (c .before .before .before .args .x) (c .before .before .before .args .out .now) (c .before .before .before .args .at) (c .before .if1 .left) (c .before .before .before .pre .1))
+put-number-put-number-requires t c κs = let s = c .before .before .before in (omega (arith, c .before .if1 .left, s .pre .0), room-tens (s .args .x) (s .args .out .now) (s .args .at) (c .before .if1 .left) (s .pre .1))
 
 put-number-cast-put-byte-2 : (t : ℕ) → put-number-lts.Need-cast-put-byte-2 (
   put-byte-reads.Asked,
