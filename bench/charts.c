@@ -11,16 +11,19 @@
 #include <stdlib.h>
 #include <string.h>
 
-enum { ROUNDS = 5, SEEDS = 2, NODES = 64, EDGES = 192, MAX_CASES = 64 };
+enum { ROUNDS = 5, SEEDS = 2, SIZES = 4, SMALLEST = 8, EDGES_A_NODE = 3, MAX_CASES = 64 };
 
 typedef struct {
   Instance inst;
   uint8_t table[MAX_TABLE];
   size_t length;
   ChartAnswer answer;
-  long dot_crossings;
+  long dot_crossings, dot_total;
   double ours[ROUNDS], dot[SETTINGS][ROUNDS], apart[ROUNDS];
 } Case;
+
+// The shapes of one size: those accepted as they are, and those cut until they are.
+typedef struct { Case whole[MAX_CASES], near[MAX_CASES]; size_t count, near_count, nodes; } Size;
 
 typedef struct { double log_sum, least; const char *least_name; size_t count; } Ratios;
 
@@ -41,10 +44,12 @@ static void check_ours(const Case *c) {
   if (count_total(&c->inst, &d) != a->total) stop(c, "other total");
   if (count_crossings(&c->inst, &d) != a->crossings) stop(c, "other crossings");
 }
-// dot also ranks for the least total, so it must be ours: both were given the same problem.
+// dot also ranks for the least total, and was given the same problem: its total cannot be less than ours. It may be more, since dot's
+// search does not always reach the least; print_not_least tells how often.
 static void check_dot(Case *c, const Drawing *d) {
   if (!is_feasible(&c->inst, d)) stop(c, "dot's ranks not feasible");
-  if (count_total(&c->inst, d) != c->answer.total) stop(c, "dot has another total");
+  c->dot_total = count_total(&c->inst, d);
+  if (c->dot_total < c->answer.total) stop(c, "dot has a smaller total");
   c->dot_crossings = count_crossings(&c->inst, d);
 }
 static double run_ours(Case *c) {
@@ -135,22 +140,23 @@ static void cut(Case *c) {
     c->inst.edges--;
   }
 }
-// The shapes that are accepted as they are, and the others cut.
-static size_t make_cases(Case *whole, Case *near, size_t *cut_count) {
-  size_t count = 0;
-  *cut_count = 0;
+static void make_size(Size *s, size_t nodes) {
+  s->nodes = nodes;
   for (size_t shape = 0; shape < shape_count(); shape++)
     for (int seed = 1; seed <= SEEDS; seed++) {
-      Case *c = &whole[count];
-      make_shape(&c->inst, shape, NODES, EDGES, seed);
+      Case *c = &s->whole[s->count];
+      make_shape(&c->inst, shape, nodes, nodes * EDGES_A_NODE, seed);
       if (is_accepted(c)) {
-        count++;
+        s->count++;
         continue;
       }
-      near[*cut_count] = *c;
-      cut(&near[(*cut_count)++]);
+      s->near[s->near_count] = *c;
+      cut(&s->near[s->near_count++]);
     }
-  return count;
+}
+static void run_size(Size *s) {
+  run_all(s->whole, s->count);
+  run_all(s->near, s->near_count);
 }
 
 // The stored instances that are accepted.
@@ -165,27 +171,83 @@ static size_t read_stored(Case *cases, int files, char **paths) {
   }
   return count;
 }
+
+// Geometric means at a size: points, time of ours, and of dot's ranks and order alone.
+typedef struct { double points, ours, dot; } SizeMeans;
+
+static void add_logs(SizeMeans *m, const Case *cases, size_t count) {
+  for (size_t i = 0; i < count; i++) {
+    m->points += log(cases[i].answer.points);
+    m->ours += log(median(cases[i].ours));
+    m->dot += log(median(cases[i].dot[ORDER_ONLY]));
+  }
+}
+static SizeMeans means_of(const Size *s) {
+  SizeMeans m = { 0 };
+  add_logs(&m, s->whole, s->count);
+  add_logs(&m, s->near, s->near_count);
+  size_t all = s->count + s->near_count;
+  return (SizeMeans){ exp(m.points / all), exp(m.ours / all), exp(m.dot / all) };
+}
+static void print_growth(const Size *sizes) {
+  SizeMeans before = { 0 };
+  printf("\nGrowth with size: geometric means over the shapes (us); dot finds ranks and order alone\n");
+  for (int k = 0; k < SIZES; k++) {
+    SizeMeans m = means_of(&sizes[k]);
+    printf("size %zu/%zu points %.0f ours %.1f dot %.0f", sizes[k].nodes, sizes[k].nodes * EDGES_A_NODE, m.points, m.ours, m.dot);
+    if (k > 0) printf("; twice the size: points x %.1f, ours x %.1f, dot x %.1f", m.points / before.points, m.ours / before.ours, m.dot / before.dot);
+    printf("\n");
+    before = m;
+  }
+}
+static size_t count_not_least(const Case *cases, size_t count) {
+  size_t more = 0;
+  for (size_t i = 0; i < count; i++) more += cases[i].dot_total > cases[i].answer.total;
+  return more;
+}
+static void print_not_least(const Size *sizes, const Case *stored, size_t stored_count) {
+  size_t more = count_not_least(stored, stored_count), all = stored_count;
+  for (int k = 0; k < SIZES; k++) {
+    more += count_not_least(sizes[k].whole, sizes[k].count) + count_not_least(sizes[k].near, sizes[k].near_count);
+    all += sizes[k].count + sizes[k].near_count;
+  }
+  printf("\ndot's ranks are feasible on all %zu tables of all sizes, and not of least total on %zu\n", all, more);
+}
+static const Case *find_slowest(const Case *slowest, const Case *cases, size_t count) {
+  for (size_t i = 0; i < count; i++) if (median(cases[i].ours) > median(slowest->ours)) slowest = &cases[i];
+  return slowest;
+}
+static void print_slowest(const Size *s, const Case *stored, size_t stored_count) {
+  const Case *slowest = find_slowest(find_slowest(s->whole, s->whole, s->count), s->near, s->near_count);
+  slowest = find_slowest(slowest, stored, stored_count);
+  printf("\nThe slowest table of ours: %.0f us (%s, %ld points)\n", median(slowest->ours), slowest->inst.name, slowest->answer.points);
+}
 static void print_counts(const char *title, size_t accepted, size_t refused) {
   printf("%s: %zu accepted, %zu refused for their points\n", title, accepted, refused);
 }
 
 int main(int argc, char **argv) {
-  static Case whole[MAX_CASES], near[MAX_CASES], stored[MAX_CASES];
+  static Size sizes[SIZES];
+  static Case stored[MAX_CASES];
+  const Size *full = &sizes[SIZES - 1];
   Ratios all[SETTINGS] = { 0 };
-  size_t files = argc - 1, near_count;
+  size_t files = argc - 1;
   if (files > MAX_CASES || shape_count() * SEEDS > MAX_CASES) return 2;
-  size_t count = make_cases(whole, near, &near_count), stored_count = read_stored(stored, files, argv + 1);
+  for (int k = 0; k < SIZES; k++) make_size(&sizes[k], (size_t)SMALLEST << k);
+  size_t stored_count = read_stored(stored, files, argv + 1);
   printf("graphviz %s\n", dot_version());
-  print_counts("Shapes", count, near_count);
+  print_counts("Shapes", full->count, full->near_count);
   print_counts("Stored", stored_count, files - stored_count);
-  run_all(whole, count);
-  run_all(near, near_count);
+  for (int k = 0; k < SIZES; k++) run_size(&sizes[k]);
   run_all(stored, stored_count);
-  print_group("Shapes, 64 nodes and 192 edges at most", whole, count, all);
-  print_group("The refused shapes, with as many of their first edges as are accepted", near, near_count, all);
+  print_group("Shapes, 64 nodes and 192 edges at most", full->whole, full->count, all);
+  print_group("The refused shapes, with as many of their first edges as are accepted", full->near, full->near_count, all);
   print_group("Stored: found by searching for instances bad for our rows", stored, stored_count, all);
-  printf("\nAll tables\n");
+  printf("\nAll tables of this size\n");
   print_ratios(all);
-  printf("\nEvery answer of ours was counted again from its rows and order; dot's ranks had our total each time.\n");
+  print_growth(sizes);
+  print_not_least(sizes, stored, stored_count);
+  print_slowest(full, stored, stored_count);
+  printf("\nEvery answer of ours was counted again from its rows and order.\n");
   return 0;
 }

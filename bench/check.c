@@ -9,7 +9,7 @@ long total_of(const Instance *g, const uint8_t *rows) {
   for (size_t i = 0; i < g->edges; i++) total += g->edge[i].weight * length_of(&g->edge[i], rows);
   return total;
 }
-static int is_feasible(const Instance *g, const uint8_t *rows) {
+int is_feasible(const Instance *g, const uint8_t *rows) {
   for (size_t i = 0; i < g->edges; i++) if (length_of(&g->edge[i], rows) < (long)g->edge[i].gap) return 0;
   return 1;
 }

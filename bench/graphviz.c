@@ -1,20 +1,11 @@
 // Every setting: minlen = gap, weight = weight. ORDER_ONLY and NO_CURVES: empty labels, so that no text is measured.
 // ORDER_ONLY: phase=2, dot ends after ranks and order, which is all that our chart has, and notes them at its nodes. NO_CURVES:
 // splines=none, so dot also finds coordinates, but routes no edge. AS_IT_COMES: nothing else is set.
-#define _POSIX_C_SOURCE 200809L
 #define _DEFAULT_SOURCE
 #include "graphviz.h"
 #include <graphviz/gvc.h>
 #include <stdio.h>
 #include <stdlib.h>
-#include <time.h>
-
-// Time of this thread on the processor: other processes that take it meanwhile do not count.
-double now_us(void) {
-  struct timespec t;
-  clock_gettime(CLOCK_THREAD_CPUTIME_ID, &t);
-  return t.tv_sec * 1e6 + t.tv_nsec / 1e3;
-}
 
 static GVC_t *context(void) {  // one for the whole run: plugins are loaded once
   static GVC_t *gvc;

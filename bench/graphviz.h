@@ -1,6 +1,7 @@
 // The peer: graphviz's dot, in process.
 #ifndef GRAPHVIZ_H
 #define GRAPHVIZ_H
+#include "clock.h"
 #include "drawing.h"
 
 // How much of dot's work is asked for.
@@ -12,6 +13,4 @@ typedef struct { double layout_us, apart_us; } DotTimes;  // gvLayout alone; mak
 int draw_by_dot(const Instance *inst, int setting, DotTimes *times, Drawing *d);
 
 const char *dot_version(void);
-
-double now_us(void);
 #endif

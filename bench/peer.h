@@ -1,6 +1,7 @@
 // The peer: LEMON's network simplex on the dual flow problem.
 #ifndef PEER_H
 #define PEER_H
+#include "clock.h"
 #include "instance.h"
 #ifdef __cplusplus
 extern "C" {
@@ -12,10 +13,11 @@ typedef struct {
   long flow[MAX_EDGES];
 } PeerAnswer;
 
+// 0 where the benchmark was built without LEMON (no_peer.c); the next call is then not made.
+int peer_is_here(void);
+
 // 1 where the peer found an optimum.
 int solve_by_peer(const Instance *inst, PeerAnswer *answer);
-
-double now_us(void);
 
 #ifdef __cplusplus
 }

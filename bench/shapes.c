@@ -44,7 +44,7 @@ static void grid(Instance *g, size_t m) {
   }
 }
 static void layers(Instance *g, size_t m) {
-  size_t w = 8;
+  size_t w = g->nodes < 16 ? g->nodes / 2 : 8;
   while (g->edges < m) {
     size_t v = below(g->nodes - w);
     add(g, m, v, (v / w + 1) * w + below(w));

@@ -16,7 +16,7 @@ use Rattle.network.specs.Relax.{Holder, Sums}
 use Rattle.network.proofs.ListLaws.{set-cases, zero-at}
 use Rattle.network.proofs.SumLaws.{sum-add, sum-ge, sum-take, sum-take-le, sum-zero, sum-none, flux-add, flux-take, flux-zero, spread-add}
 use Rattle.network.proofs.BestLaws.{certified-best, certified-bounded}
-use Rattle.network.proofs.DrainLaws.{owed-equal, owed-none}
+use Rattle.network.proofs.DrainLaws.{owed-equal, owed-none, holder-of}
 
 pub low-sums : (from to gap : List ℕ) (n : ℕ) (y : List ℕ) → Shaped from to gap n → Narrow gap n → Low n calmLimit y → Sums from gap y
 low-sums from to gap n y shape narrow l = record { fits = λ a h. omega (arith, l .low (at from a) (shape .from-in a h), narrow .gaps a) }
@@ -138,6 +138,9 @@ module _ (from to gap weight : List ℕ) (n : ℕ) where
 
 pub holder-start : (from to gap flow : List ℕ) (n : ℕ) → flow ≡ replicate (length from) 0 → Bounded from to gap n rowLimit → Holder from to gap flow n rowLimit
 holder-start from to gap flow n e b = record { rows = b .rows; held = record { kept = b .kept; tight = λ a h u. absurd (omega (arith, ap (λ (l : List ℕ). at l a) e, zero-at (length from) a)) }; low = b .low }
+
+pub holder-calm : (from to gap flow : List ℕ) (n : ℕ) (y : List ℕ) → Held from to gap flow (at y) → Low n calmLimit y → Holder from to gap flow n rowLimit
+holder-calm from to gap flow n y h l = holder-of from to gap flow n y calmLimit h l (omega arith)
 
 pub certify : (from to gap weight : List ℕ) (n : ℕ) (first old y′ y flow supply demand : List ℕ) → Shaped from to gap n → length weight ≡ length from
     → length old ≡ length first → drop n old ≡ drop n first → DrainedAll from to gap weight n old y′ flow supply demand → Relaxed from to gap flow n y′ y

@@ -1,4 +1,5 @@
 -- Why the parts of the solver do what they promise, by subject.
+pub mod IndexLaws
 pub mod ListLaws
 pub mod SumLaws
 pub mod EdgesLaws

@@ -1,5 +1,6 @@
 // Draining: what each node has to send is sent to nodes that have a demand.
 use crate::fill::smaller_of;
+use crate::fill::take_at;
 use crate::push::push_flow;
 use crate::relax::relax_edges;
 use crate::tree::grow_tree;
@@ -9,7 +10,7 @@ ghost use Prim.Native.Nat.{_≤_, _<_};
 ghost use lib.ListN.{length};
 ghost use Rattle.graph.specs.Rows.{at};
 ghost use Rattle.network.specs.Certificate.{Held};
-ghost use Rattle.network.specs.Drain.{Flows, Low, Lowered, Drained, DrainedAll};
+ghost use Rattle.network.specs.Drain.{Flows, Low, Lowered, Sendable, Sent, Drained, DrainedAll};
 ghost use Rattle.network.specs.Limits.{weightLimit, calmLimit, peakLimit};
 ghost use Rattle.network.specs.Network.{sum, Shaped, Narrow, Lengths};
 
@@ -54,6 +55,54 @@ pub fn lower_rows(
     relax_edges(from, to, gap, flow, n, y);
 }
 
+// As much as can come to node t and t wants, sent there from node s over the tree; what s has still to send.
+fn send_flow(
+    from: &[usize],
+    to: &[usize],
+    gap: &[usize],
+    weight: &[usize],
+    n: usize,
+    y: &mut [usize],
+    flow: &mut [usize],
+    rank: &[usize],
+    parent: &[usize],
+    capacity: &[usize],
+    supply: &mut [usize],
+    demand: &mut [usize],
+    s: usize,
+    t: usize,
+) -> usize
+    requires { ⌜ Shaped (now from) (now to) (now gap) n ⌝ }
+    requires { ⌜ sum (now weight) < weightLimit ⌝ }
+    requires { ⌜ Narrow (now gap) n ⌝ }
+    requires { ⌜ s < n ⌝ }
+    requires { ⌜ Sendable (now from) (now to) (now gap) (now weight) n s t (now y) (now flow) (now rank) (now parent) (now capacity) (now supply) (now demand) ⌝ }
+    ensures { λ r. ⌜ Sent (now (from .entry)) (now (to .entry)) (now (gap .entry)) (now (weight .entry)) n s (now (y .entry)) (now (supply .entry)) (now (y .exit)) (now (flow .exit)) (now (supply .exit)) (now (demand .exit)) r ⌝ }
+{
+    let d = smaller_of(capacity[t], demand[t]);
+    push_flow(
+        from,
+        to,
+        gap,
+        flow,
+        weight,
+        supply,
+        demand,
+        n,
+        y,
+        rank,
+        parent,
+        capacity,
+        s,
+        t,
+        d,
+    );
+    let left = take_at(supply, s, d);
+    take_at(demand, t, d);
+    lower_rows(from, to, gap, flow, n, y);
+    left
+}
+
 // What node s has to send, sent: a tree from s to a node with demand, and a push along it, until s has no supply.
 pub fn drain_node(
     from: &[usize],
@@ -85,8 +134,8 @@ pub fn drain_node(
     requires { ⌜ s < n ⌝ }
     ensures { λ _. ⌜ Drained (now (from .entry)) (now (to .entry)) (now (gap .entry)) (now (weight .entry)) n s (now (y .entry)) (now (supply .entry)) (now (y .exit)) (now (flow .exit)) (now (supply .exit)) (now (demand .exit)) (now (rank .exit)) (now (parent .exit)) (now (capacity .exit)) ⌝ }
 {
-    while supply[s] > 0 {
-        let amount = supply[s];
+    let mut amount = supply[s];
+    while amount > 0 {
         plant_root(rank, capacity, n, s, amount);
         let t = grow_tree(
             from,
@@ -109,27 +158,22 @@ pub fn drain_node(
             s,
             amount,
         );
-        let d = smaller_of(capacity[t], demand[t]);
-        push_flow(
+        amount = send_flow(
             from,
             to,
             gap,
-            flow,
             weight,
-            supply,
-            demand,
             n,
             y,
+            flow,
             rank,
             parent,
             capacity,
+            supply,
+            demand,
             s,
             t,
-            d,
         );
-        supply[s] = supply[s] - d;
-        demand[t] = demand[t] - d;
-        lower_rows(from, to, gap, flow, n, y);
     }
 }
 

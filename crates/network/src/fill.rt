@@ -1,8 +1,9 @@
-// Buffers cleared, and the smaller of two numbers.
+// Buffers cleared and changed at an entry, and the smaller of two numbers.
 ghost use mathlib.Core.Path.{_≡_};
 ghost use mathlib.Core.List.{_++_};
-ghost use Prim.Native.Nat.{max, min, _≤_};
-ghost use lib.ListN.{length, drop, replicate};
+ghost use Prim.Native.Nat.{max, min, _-_, _≤_, _<_};
+ghost use lib.ListN.{length, set, drop, replicate};
+ghost use Rattle.graph.specs.Rows.{at};
 
 // The first n entries set to 0.
 pub fn clear_first(y: &mut [usize], n: usize)
@@ -34,4 +35,16 @@ pub fn larger_of(a: usize, b: usize) -> usize
         return b;
     }
     a
+}
+
+// d taken off entry i; what is left there.
+pub fn take_at(xs: &mut [usize], i: usize, d: usize) -> usize
+    requires { ⌜ i < length (now xs) ⌝ }
+    requires { ⌜ d ≤ at (now xs) i ⌝ }
+    ensures { λ r. ⌜ r ≡ at (now (xs .entry)) i - d ⌝ }
+    ensures { λ _. ⌜ now (xs .exit) ≡ set (now (xs .entry)) i (at (now (xs .entry)) i - d) ⌝ }
+{
+    let left = xs[i] - d;
+    xs[i] = left;
+    left
 }

@@ -10,8 +10,7 @@ mod tree;
 
 use crate::arcs::link_lists;
 use crate::drain::drain_nodes;
-use crate::fill::clear_first;
-use crate::load::load_edges;
+use crate::load::start_flow;
 use crate::relax::relax_edges;
 ghost use lib.ListN.{length};
 ghost use Rattle.network.specs.Certificate.{Certified};
@@ -43,12 +42,8 @@ pub fn solve(
     requires { ⌜ Buffers (length (now from)) n (now y) (now flow) (now rank) (now parent) (now capacity) (now supply) (now demand) ⌝ }
     ensures { λ _. ⌜ Certified (now (from .entry)) (now (to .entry)) (now (gap .entry)) (now (weight .entry)) n (now (y .entry)) (now (y .exit)) (now (flow .exit)) ⌝ }
 {
-    clear_first(flow, from.len());
-    clear_first(supply, n);
-    clear_first(demand, n);
+    start_flow(from, to, gap, weight, n, y, flow, supply, demand);
     link_lists(from, to, out_head, out_next, in_head, in_next);
-    relax_edges(from, to, gap, flow, n, y);
-    load_edges(from, to, gap, weight, n, y, flow, supply, demand);
     drain_nodes(
         from,
         to,

@@ -1,12 +1,14 @@
 // Taking the edges in: a tight one carries its weight; the ends of any other have it to send and to get.
+use crate::fill::clear_first;
+use crate::relax::relax_edges;
 ghost use mathlib.Core.Path.{_≡_};
 ghost use Prim.Native.Nat.{_+_, _≤_, _<_};
 ghost use lib.ListN.{length, replicate};
 ghost use Rattle.graph.specs.Rows.{at};
 ghost use Rattle.network.specs.Certificate.{Held};
-ghost use Rattle.network.specs.Drain.{Flows, Loads};
-ghost use Rattle.network.specs.Limits.{wordLimit, weightLimit};
-ghost use Rattle.network.specs.Network.{sum, Shaped};
+ghost use Rattle.network.specs.Drain.{Flows, Loads, Started};
+ghost use Rattle.network.specs.Limits.{wordLimit, weightLimit, rowLimit};
+ghost use Rattle.network.specs.Network.{sum, Shaped, Network, Bounded};
 ghost use Rattle.network.specs.Relax.{Sums};
 
 // Edge e taken in.
@@ -39,8 +41,8 @@ pub fn load_edge(
         flow[e] = w;
         return;
     }
-    supply[f] = supply[f] + w;
-    demand[t] = demand[t] + w;
+    supply[f] += w;
+    demand[t] += w;
 }
 
 // All edges taken in.
@@ -71,4 +73,31 @@ pub fn load_edges(
         load_edge(from, to, gap, weight, y, flow, supply, demand, e);
         e += 1;
     }
+}
+
+// The lowest rows, and all edges taken in at them.
+pub fn start_flow(
+    from: &[usize],
+    to: &[usize],
+    gap: &[usize],
+    weight: &[usize],
+    n: usize,
+    y: &mut [usize],
+    flow: &mut [usize],
+    supply: &mut [usize],
+    demand: &mut [usize],
+)
+    requires { ⌜ Network (now from) (now to) (now gap) (now weight) n ⌝ }
+    requires { ⌜ Bounded (now from) (now to) (now gap) n rowLimit ⌝ }
+    requires { ⌜ n ≤ length (now y) ⌝ }
+    requires { ⌜ length (now flow) ≡ length (now from) ⌝ }
+    requires { ⌜ length (now supply) ≡ n ⌝ }
+    requires { ⌜ length (now demand) ≡ n ⌝ }
+    ensures { λ _. ⌜ Started (now (from .entry)) (now (to .entry)) (now (gap .entry)) (now (weight .entry)) n (now (y .entry)) (now (y .exit)) (now (flow .exit)) (now (supply .exit)) (now (demand .exit)) ⌝ }
+{
+    clear_first(flow, from.len());
+    clear_first(supply, n);
+    clear_first(demand, n);
+    relax_edges(from, to, gap, flow, n, y);
+    load_edges(from, to, gap, weight, n, y, flow, supply, demand);
 }

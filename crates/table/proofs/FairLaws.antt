@@ -2,7 +2,7 @@
 use mathlib.Core.Path.{_≡_, refl, sym, ap, subst, _∙_}
 use mathlib.Core.Bool.{Bool, true, false, not, _&&_, cond}
 use mathlib.Core.List.{List}
-use Prim.Native.Nat.{ℕ, zero, suc, _+_, _-_, _≤_, _<_}
+use Prim.Native.Nat.{ℕ, zero, suc, _+_, _-_, _*_, _≤_, _<_}
 use native.Mathlib.Omega.{arith}
 use borrow.Author.Tests.{ltb-true, eqb-true, eqb-false}
 use lib.Dec.{leb, ltb, eqb}
@@ -13,7 +13,7 @@ use Rattle.table.specs.declared.types.Kind.{Kind}
 use Rattle.table.specs.declared.types.Kind.the-variants.{Check, Adjust, Wait}
 use Rattle.table.specs.declared.types.Refusal.the-variants.{BadEdition, ManySteps, BadKind, OutOfRange, BadNameByte, ManyEdges, BadEnd, Spare}
 use Rattle.table.specs.declared.types.Step.{Step}
-use Rattle.table.specs.Limits.{edition, maxSteps, maxEdges, maxKind, maxTolerance, minMinutes, maxMinutes, minName, maxName, minNameByte, maxNameByte, minGap, maxGap, maxWeight}
+use Rattle.table.specs.Limits.{edition, maxSteps, maxEdges, maxKind, maxTolerance, minMinutes, maxMinutes, minName, maxName, minNameByte, maxNameByte, minGap, maxGap, maxWeight, maxTable}
 use Rattle.table.specs.Refusal.{done}
 use Rattle.table.specs.Number.{Read, got, fault, andThen, judge, byteAt, numberAt, numberIn, many, counted}
 use Rattle.table.specs.Table.{adjustAt, waitAt, kindAt, nameByteAt, nameAt, namedAt, stepAt, endAt, edgeBetween, edgeAt, stepsAt, edgesAt, listsAt, tableAt, outcome, read, Contents}
@@ -86,6 +86,9 @@ name-place s k at {len} {e} h g = go (many (nameByteAt s) k at) refl g
         (omega (arith, got-value g), omega (arith, got-place g), omega (arith, got-place g))
     go (fault r) f g = never g
 
+step-wide : (at k l v n p : ℕ) → k ≤ at + 6 → l ≤ k + 3 → v ≤ maxName → n ≡ l + v → n ≡ p → p ≤ at + 25
+step-wide at k l v n p a b c d e = omega arith
+
 -- a step takes at most 25 bytes
 pub step-fair : (s : List ℕ) (at : ℕ) {st : Step} {p : ℕ} → stepAt s at ≡ got st p → FairStep s st × (p ≤ at + 25)
 unfolding stepAt namedAt
@@ -99,8 +102,13 @@ step-fair s at {st} {p} e =
     let kind = kind-place s at (k .first) in
     let q = got-place (n .next) in (
       subst (FairStep s) (got-value (n .next))
-          (record { some = omega arith; short = omega arith; inside = omega arith; kind-low = kind-low s at (k .first) }),
-      omega arith,
+          (record {
+            some = subst (λ x. minName ≤ x) (sym (name .0)) (lim .0);
+            short = subst (λ x. x ≤ maxName) (sym (name .0)) (lim .1);
+            inside = subst (λ x. l .place + x ≤ length s) (sym (name .0)) (subst (λ x. x ≤ length s) (name .1) (name .2));
+            kind-low = kind-low s at (k .first);
+          }),
+      step-wide at (k .place) (l .place) (l .value) (n .place) p kind (took .1) (lim .1) (name .1) q,
     )
 
 -- ---- edges
@@ -122,6 +130,9 @@ end-fair s n but at {v} {p} e =
     apart x true e f h = let z : _≡_ {A = ℕ} 0 1 = cc in omega arith
     apart x false e f h = eqb-false x but e h
 
+edge-wide : (at a b g w p : ℕ) → a ≤ at + 3 → b ≤ a + 3 → g ≤ b + 3 → w ≤ g + 3 → w ≡ p → p ≤ at + 12
+edge-wide at a b g w p c d e f h = omega arith
+
 -- an edge takes at most 12 bytes
 pub edge-fair : (s : List ℕ) (n at : ℕ) {x : Edge} {p : ℕ} → edgeAt s n at ≡ got x p → FairEdge n x × (p ≤ at + 12)
 unfolding edgeAt edgeBetween
@@ -139,10 +150,13 @@ edge-fair s n at {x} {p} e =
     let z = got-place (w .next) in (
       subst (FairEdge n) (got-value (w .next))
           (record { from-in = from .0; to-in = to .0; apart = to .1; gap-some = gap .0; gap-low = gap .1; weight-low = weight .1 }),
-      omega arith,
+      edge-wide at (a .place) (b .place) (g .place) (w .place) p (from .2) (to .2) (q .1) (r .1) z,
     )
 
 -- ---- the table
+
+table-wide : (a b n c d m e : ℕ) → a ≤ 3 → b ≤ a + 3 → n ≤ maxSteps → c ≤ b + n * 25 → d ≤ c + 3 → m ≤ maxEdges → e ≤ d + m * 12 → e ≤ maxTable
+table-wide a b n c d m e f g h i j k l = omega arith
 
 -- three bytes for the edition, three for each count, at most 25 a step and 12 an edge
 table-fair : (s : List ℕ) {c : Contents} {p : ℕ} → tableAt s 0 ≡ got c p → Fair s c
@@ -166,11 +180,12 @@ table-fair s {c} {p} e =
     let d = limits-place 0 maxEdges ManyEdges s (st .place) (m .first) in
     subst (Fair s) (got-value (last .1))
     (record {
-      few-steps = omega arith;
-      few-edges = omega arith;
+      few-steps = subst (λ x. x ≤ maxSteps) (sym nl) few;
+      few-edges = subst (λ x. x ≤ maxEdges) (sym ml) fewer;
       each-step = many-each (stepAt s) (FairStep s) noStep (λ at a q h. step-fair s at h .0) (n .value) (n .place) (n .next);
       each-edge = many-each (edgeAt s (length (st .value))) (FairEdge (length (st .value))) noEdge (λ at a q h. edge-fair s (length (st .value)) at h .0) (m .value) (m .place) (m .next);
-      short = omega arith;
+      short = subst (λ x. x ≤ maxTable) end
+          (table-wide (ed .place) (n .place) (n .value) (st .place) (m .place) (m .value) (es .place) (a .1) (b .1) few wide (d .1) fewer wider);
     })
 
 -- what is accepted is fair

@@ -1,3 +1,5 @@
+mod FitLaws
+mod ThenLaws
 pub mod NumberLaws
 pub mod ManyLaws
 pub mod NameLaws

@@ -27,6 +27,10 @@ module _ {A : Type 0} {k : ℕ} {blank : A} {what : Read (List A)} {verdict : Ve
   pub read-accepted : verdict ≡ Accepted → what ≡ got (take n list) next
   read-accepted e = sym (r .says) ∙ ap (λ v. judged v (take n list) next) e
 
+  -- the same list, read by another name
+  pub read-as : {other : Read (List A)} → what ≡ other → ListRead k blank other verdict n list next
+  read-as e = record { says = r .says ∙ e; rest = r .rest; few = r .few; long = r .long }
+
   pub read-count : length (take n list) ≡ n
   read-count = length-take-le n list (omega (arith, r .few, r .long))
 

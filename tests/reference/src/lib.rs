@@ -13,4 +13,5 @@ pub mod records;
 pub mod refusal;
 pub mod rows;
 pub mod table;
+pub mod words;
 pub mod writer;

@@ -17,6 +17,13 @@ pub fn print_chart(input: &[u8]) -> Vec<u8> {
     }
 }
 
+/// The number of the refusal that a listing tells; 0 for a chart.
+pub fn refusal_of(listing: &[u8]) -> u8 {
+    let text = String::from_utf8_lossy(listing);
+    let number = text.strip_prefix("refused ").and_then(|rest| rest.split_whitespace().next());
+    number.map_or(0, |number| number.parse().expect("a refusal has a number"))
+}
+
 pub fn list_chart(bytes: &[u8], table: &Table, chart: &Chart) -> Vec<u8> {
     let (steps, edges) = (table.steps.len(), table.edges.len());
     let (total, crossings) = (chart.total, chart.crossings);

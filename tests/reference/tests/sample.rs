@@ -5,6 +5,7 @@ use reference::chart::draw_chart;
 use reference::listing::print_chart;
 use reference::rows::total;
 use reference::table::{read_table, Edge};
+use reference::words::{print_words, write_words};
 
 const SAMPLE: [u8; 47] = [
     0x01, 0x04, 0x02, 0x1e, 0x04, 0x77, 0x61, 0x72, 0x6d, 0x00, 0x04, 0x6c, 0x6f, 0x63, 0x6b, 0x00, 0x05, 0x73, 0x77,
@@ -82,6 +83,22 @@ fn records_judge_ends_before_ranges() {
     assert_eq!(rows, [9; 3]);
     assert_eq!(calls::records(2, &[[1, 0, 4, 0]; 192], &mut rows), 0);
     assert_eq!(rows, [4, 0, 9]);
+}
+
+#[test]
+fn words_of_records() {
+    let records = [[0, 1, 1, 1], [1, 2, 2, 3], [0, 3, 1, 1], [3, 2, 1, 5]];
+    let print = |input: &[u8]| String::from_utf8(print_words(input)).unwrap();
+    let mut input = write_words(4, 300, &records);
+    assert_eq!(input[..24], [4, 0, 0, 0, 0, 0, 0, 0, 44, 1, 0, 0, 0, 0, 0, 0, 0, 0, 0, 0, 0, 0, 0, 0]);
+    assert_eq!(print(&input), "rows 0 1 3 2\n");
+    input.extend([0xff; 31]);
+    assert_eq!(print(&input), "rows 0 1 3 2\n");
+    assert_eq!(print(&write_words(4, 3, &records)), "refused 13\n");
+    assert_eq!(print(&write_words(3, 3, &[[1, 2, 1, 1], [2, 1, 1, 1]])), "refused 11 1\n");
+    assert_eq!(print(&write_words(2, 2, &[[0, 1, 1, 1]; 900])), "refused 8\n");
+    assert_eq!(print(&[]), "rows\n");
+    assert_eq!(print(&write_words(1, 1, &[])[..15]), "refused 13\n");
 }
 
 #[test]

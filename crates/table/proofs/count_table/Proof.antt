@@ -1,17 +1,16 @@
 -- `count_table` meets its contract: the verdict tells the outcome, and the counts are the lengths of the lists.
 use Rattle.table.proofs.AnswerLaws.{told-refused, told, counted, counts-refused}
-use borrow.Author.Needs.{needs}
 use Rattle.table.proofs.count_table.Statement.{statement}
 use Rattle.table.proofs.count_table.Tie as tie
 
 read-table-requires : tie.Need-read-table-requires
-read-table-requires c κs = search needs
+read-table-requires c κs = tt
 
 enum-known-verdict : tie.Need-enum-known-verdict
-enum-known-verdict c = search needs
+enum-known-verdict c = c .match .keys1
 
 enum-told : tie.Need-enum-told
-enum-told c = search needs
+enum-told c = c .match .keys2
 
 returns : tie.Need-returns
 returns c = counts-refused _ (told-refused _ _ (c .before .before .before .read-table .ensures) (c .before .verdict .given .1))

@@ -1,33 +1,34 @@
 -- `find_name` meets its contract: an accepted table has at most 64 steps, so the index is within the array.
-use native.Mathlib.Omega.{arith}
+use native.Mathlib.Nat.{le-trans, lt-of-lt-of-le}
+use lib.Dec.{lit≤}
+use Rattle.table.proofs.FitLaws.{scaled}
 use Rattle.table.proofs.AnswerLaws.{told-refused, told, missing, found, few, name-refused}
-use borrow.Author.Needs.{needs}
 use Rattle.table.proofs.find_name.Statement.{statement}
 use Rattle.table.proofs.find_name.Tie as tie
 
 read-table-requires : tie.Need-read-table-requires
-read-table-requires c κs = search needs
+read-table-requires c κs = tt
 
 enum-known-verdict : tie.Need-enum-known-verdict
-enum-known-verdict c = search needs
+enum-known-verdict c = c .match .keys1
 
 enum-told : tie.Need-enum-told
-enum-told c = search needs
+enum-told c = c .match .keys2
 
 returns : tie.Need-returns
-returns c = missing _ _ (told _ _ (c .before .before .before .before .read-table .ensures) (c .before .before .enum-told .given .1)) _ (omega (arith, c .if1 .taken))
+returns c = missing _ _ (told _ _ (c .before .before .before .before .read-table .ensures) (c .before .before .enum-told .given .1)) _ (c .if1 .taken)
 
 mul-step : tie.Need-mul-step
-mul-step c = omega (arith, few _ _ (told _ _ (c .before .before .before .before .read-table .ensures) (c .before .before .enum-told .given .1)))
+mul-step c = scaled _ _ (c .if1 .left) (le-trans (few _ _ (told _ _ (c .before .before .before .before .read-table .ensures) (c .before .before .enum-told .given .1))) (lit≤ tt))
 
 element-copy-out-step : tie.Need-element-copy-out-step
-element-copy-out-step c = omega (arith, few _ _ (told _ _ (c .before .before .before .before .read-table .ensures) (c .before .before .enum-told .given .1)))
+element-copy-out-step c = lt-of-lt-of-le (c .if1 .left) (few _ _ (told _ _ (c .before .before .before .before .read-table .ensures) (c .before .before .enum-told .given .1)))
 
 returns-2 : tie.Need-returns-2
 returns-2 c = name-refused _ (told-refused _ _ (c .before .before .before .read-table .ensures) (c .before .verdict .given .1)) _
 
 returns-3 : tie.Need-returns-3
-returns-3 c = found _ _ (told _ _ (c .before .before .before .before .before .read-table .ensures) (c .before .before .before .enum-told .given .1)) _ (omega (arith, c .before .if1 .left))
+returns-3 c = found _ _ (told _ _ (c .before .before .before .before .before .read-table .ensures) (c .before .before .before .enum-told .given .1)) _ (c .before .if1 .left)
 
 pub find-name-spec : {M : Type 1} → statement M
 find-name-spec =

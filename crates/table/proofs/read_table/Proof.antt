@@ -1,32 +1,34 @@
 -- `read_table` meets its contract: the edition, then the lists, as in `tableAt`.
-use mathlib.Core.Path.{_∙_}
-use Rattle.table.specs.Table.{tableAt, read}
-use borrow.Author.Needs.{needs}
+use mathlib.Core.Path.{refl, sym, ap, _∙_}
+use Rattle.table.specs.Table.{tableAt, read, outcome}
+use Rattle.table.specs.Number.{numberRead}
+use Rattle.table.specs.Calls.{tableRead}
+use Rattle.table.proofs.ThenLaws.{then-fault, then-got}
 use Rattle.table.proofs.read_table.Statement.{statement}
 use Rattle.table.proofs.read_table.Tie as tie
 
 number-in-requires : tie.Need-number-in-requires
-number-in-requires c κs = search needs
+number-in-requires c κs = tt
 
 enum-known-f : tie.Need-enum-known-f
-enum-known-f c = search needs
+enum-known-f c = c .match .keys1
 
 refuse-table-requires : tie.Need-refuse-table-requires
-refuse-table-requires c κs = search needs
+refuse-table-requires c κs = tt
 
 enum-known-at : tie.Need-enum-known-at
-enum-known-at c = search needs
+enum-known-at c = c .match .keys2
 
 read-lists-requires : tie.Need-read-lists-requires
-read-lists-requires c κs = search needs
+read-lists-requires c κs = tt
 
 returns : tie.Need-returns
 unfolding read tableAt
-returns c = c .refuse-table .ensures ∙ simp (← c .before .before .before .before .number-in .ensures, c .before .before .f .given .1)
+returns c = c .refuse-table .ensures ∙ ap (λ x. tableRead (outcome x)) (then-fault _ (sym (c .before .before .before .before .number-in .ensures) ∙ ap numberRead (c .before .before .f .given .1)))
 
 returns-2 : tie.Need-returns-2
 unfolding read tableAt
-returns-2 c = c .read-lists .ensures ∙ simp (← c .before .before .before .before .number-in .ensures, c .before .before .at .given .1)
+returns-2 c = c .read-lists .ensures ∙ ap (λ x. tableRead (outcome x)) (then-got _ (sym (c .before .before .before .before .number-in .ensures) ∙ ap numberRead (c .before .before .at .given .1)) refl)
 
 pub read-table-spec : {M : Type 1} → statement M
 read-table-spec =

@@ -2,21 +2,20 @@
 use mathlib.Core.Path.{sym, ap, _∙_}
 use Rattle.table.specs.Calls.{refusalOf}
 use Rattle.table.proofs.AnswerLaws.{answer-refused, answer-found}
-use borrow.Author.Needs.{needs}
 use Rattle.table.proofs.refuse_name.Statement.{statement}
 use Rattle.table.proofs.refuse_name.Tie as tie
 
 find-name-requires : tie.Need-find-name-requires
-find-name-requires c κs = search needs
+find-name-requires c κs = tt
 
 enum-known-f : tie.Need-enum-known-f
-enum-known-f c = search needs
+enum-known-f c = c .match .keys1
 
 number-of-requires : tie.Need-number-of-requires
-number-of-requires c κs = search needs
+number-of-requires c κs = tt
 
 enum-told : tie.Need-enum-told
-enum-told c = search needs
+enum-told c = c .match .keys2
 
 returns : tie.Need-returns
 returns c = c .number-of .ensures ∙ ap refusalOf (sym (answer-refused _ _ (c .before .before .before .before .find-name .ensures) (c .before .before .f .given .1)))

@@ -5,11 +5,13 @@ use std::process::Command;
 use crate::watch;
 
 const LIST: &str = include_str!("../../standin/faults.txt");
+const CHART: &str = concat!(env!("CARGO_MANIFEST_DIR"), "/../target/release/standin_chart");
+const RECORDS: &str = concat!(env!("CARGO_MANIFEST_DIR"), "/../target/release/standin_records");
 /// Seconds until a call counts as not coming back.
 const PATIENCE: &str = "5";
 
 /// With a name, only the variants whose names start with it. Returns the exit status.
-pub fn run(only: &str, program: &str) -> i32 {
+pub fn run(only: &str) -> i32 {
     let (mut caught, mut missed) = (0, 0);
     for line in LIST.lines().filter(|line| !line.is_empty() && !line.starts_with("# ")) {
         let Some((name, meaning)) = line.split_once(' ').filter(|_| !line.starts_with("##")) else {
@@ -19,31 +21,42 @@ pub fn run(only: &str, program: &str) -> i32 {
         if !name.starts_with(only) {
             continue;
         }
-        match first_difference(name, program) {
-            Some(difference) => {
-                caught += 1;
-                println!("caught  {name}: {}\n        {difference}", meaning.trim());
-            }
-            None => {
-                missed += 1;
-                println!("MISSED  {name}: {}", meaning.trim());
-            }
+        let differences: Vec<Option<String>> =
+            trials(name).iter().map(|options| first_difference(name, options)).collect();
+        let is_caught = differences.iter().all(Option::is_some);
+        println!("{}  {name}: {}", if is_caught { "caught" } else { "MISSED" }, meaning.trim());
+        for difference in differences.into_iter().flatten() {
+            println!("        {difference}");
         }
+        caught += i32::from(is_caught);
+        missed += i32::from(!is_caught);
     }
     println!("{} variants, {caught} caught, {missed} missed", caught + missed);
     i32::from(missed > 0)
 }
 
-/// What the comparison says of it, cut to a line. A crash of the harness itself catches nothing.
-fn first_difference(fault: &str, program: &str) -> Option<String> {
-    let mut command = Command::new(std::env::current_exe().expect("the harness knows its path"));
-    command.env("STANDIN_FAULT", fault).args(["--stop-at-first", "--patience", PATIENCE]);
+/// The options of the runs that have to catch a variant. Three calls hand out rows, and wrong rows are to be caught in each.
+fn trials(fault: &str) -> Vec<Vec<&'static str>> {
     if fault.starts_with("print") {
-        command.args(["--calls", "counts", "--program", program, "--every", "40"]);
+        return vec![vec!["--calls", "counts", "--program", CHART, "--every", "40"]];
+    }
+    if fault.starts_with("lent") {
+        return vec![vec!["--calls", "records", "--records-program", RECORDS, "--every", "10"]];
     }
     if fault.starts_with("records") {
-        command.args(["--calls", "records"]);
+        return vec![vec!["--calls", "records"]];
     }
+    let in_all_rows = fault.starts_with("rows") && fault != "rows-judge-12";
+    if in_all_rows || ["never-written", "refuse-11-always"].contains(&fault) {
+        return ["rows", "records", "chart"].iter().map(|&call| vec!["--calls", call]).collect();
+    }
+    vec![Vec::new()]
+}
+
+/// What the comparison says of it, cut to a line. A crash of the harness itself catches nothing.
+fn first_difference(fault: &str, options: &[&str]) -> Option<String> {
+    let mut command = Command::new(std::env::current_exe().expect("the harness knows its path"));
+    command.env("STANDIN_FAULT", fault).args(["--stop-at-first", "--patience", PATIENCE]).args(options);
     let output = command.output().expect("the harness starts");
     let text = String::from_utf8_lossy(&output.stdout).into_owned();
     let line = text.lines().find(|line| line.starts_with("difference: ") && !line.contains(watch::NOT_OURS))?;

@@ -1,5 +1,7 @@
 //! Puts one input to the library and to the reference and compares answers and buffers.
 
+mod printed;
+
 use reference::calls::{counts, hand_out_chart, hand_out_rows, name, pack};
 use reference::chart::{draw_chart, Chart};
 use reference::random::Random;
@@ -9,7 +11,7 @@ use reference::table::read_table;
 
 use crate::host::{self, CALLS, CHART, COUNTS, NAME, RECORDS, ROWS};
 use crate::lent::Arena;
-use crate::program::Program;
+use crate::program::Programs;
 use crate::tally::Tally;
 use crate::watch;
 
@@ -20,10 +22,11 @@ pub struct Judge {
     pub tally: Tally,
     wanted: [bool; 5],
     stop_at_first: bool,
-    program: Option<Program>,
+    programs: Programs,
     /// Family and group at hand.
     place: (&'static str, usize),
     tables: u64,
+    lists: u64,
     random: Random,
     table: Arena,
     numbers: Arena,
@@ -32,14 +35,15 @@ pub struct Judge {
 }
 
 impl Judge {
-    pub fn new(wanted: [bool; 5], stop_at_first: bool, program: Option<Program>) -> Judge {
+    pub fn new(wanted: [bool; 5], stop_at_first: bool, programs: Programs) -> Judge {
         Judge {
             tally: Tally::new(),
             wanted,
             stop_at_first,
-            program,
+            programs,
             place: ("", 0),
             tables: 0,
+            lists: 0,
             random: Random::new(0),
             table: Arena::new(16),
             numbers: Arena::new(32),
@@ -125,13 +129,19 @@ impl Judge {
     }
 
     pub fn judge_records(&mut self, steps: usize, records: &[Record]) {
-        if !self.wanted[RECORDS] {
+        let printed = self.samples_list();
+        if !self.wanted[RECORDS] && !printed {
             return;
         }
         let rows = rows_of_records(steps, records);
-        let needed = rows.as_ref().map_or(0, Vec::len);
-        for len in [needed, self.other_len(needed, rows.is_err())] {
-            self.compare_records(steps, records, &rows, len);
+        if self.wanted[RECORDS] {
+            let needed = rows.as_ref().map_or(0, Vec::len);
+            for len in [needed, self.other_len(needed, rows.is_err())] {
+                self.compare_records(steps, records, &rows, len);
+            }
+        }
+        if printed {
+            self.compare_lists(steps, records, &rows);
         }
     }
 
@@ -225,37 +235,18 @@ impl Judge {
         self.settle(RECORDS, fault, || format!("steps {steps}, buffer {len}, records {records:?}"));
     }
 
-    /// One table in so many goes to the program too.
-    fn sample_listing(&mut self, bytes: &[u8]) {
-        self.tables += 1;
-        if self.program.as_ref().is_some_and(|program| self.tables % program.every == 0) {
-            self.compare_listing(bytes);
-        }
-    }
-
-    /// Puts a table to the program, if there is one.
-    pub fn compare_listing(&mut self, bytes: &[u8]) {
-        let Some(program) = &self.program else { return };
-        let mut fault = None;
-        watch::timed(CHART, || {
-            fault = program.compare(bytes);
-            0
-        });
-        self.tally.listings += 1;
-        self.settle(CHART, fault, || format!("the program, table {}", hex(bytes)));
-    }
-
     fn input_fault(&mut self, bytes: &[u8]) -> Option<String> {
         buffer_fault("table", &mut self.table, bytes)
     }
 
     fn settle(&mut self, call: usize, fault: Option<String>, input: impl FnOnce() -> String) {
         self.tally.cases += 1;
+        watch::finish_case(self.tally.cases);
         let Some(fault) = fault else { return };
         self.tally.differences += 1;
         if self.tally.differences <= SHOWN {
-            let (call, (family, group)) = (CALLS[call], self.place);
-            println!("difference: {fault}, call {call}, family {family}, group {group}: {}", input());
+            let (case, call, (family, group)) = (self.tally.cases, CALLS[call], self.place);
+            println!("difference: case {case}, call {call}, family {family}, group {group}: {fault}: {}", input());
         }
         if self.stop_at_first {
             std::process::exit(1);

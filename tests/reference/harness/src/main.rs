@@ -24,12 +24,11 @@ const ROUNDS: usize = 60;
 fn main() {
     let words: Vec<String> = std::env::args().skip(1).collect();
     if words.first().is_some_and(|word| word == "faults") {
-        let program = concat!(env!("CARGO_MANIFEST_DIR"), "/../target/release/standin_chart");
-        std::process::exit(faults::run(words.get(1).map_or("", String::as_str), program));
+        std::process::exit(faults::run(words.get(1).map_or("", String::as_str)));
     }
     let options = Options::read();
     watch::start(Duration::from_secs(options.patience));
-    let mut judge = Judge::new(options.calls, options.stop_at_first, options.program());
+    let mut judge = Judge::new(options.calls, options.stop_at_first, options.programs());
     if options.null_when_empty {
         judge.lend_null_when_empty();
     }
@@ -51,12 +50,14 @@ fn run_group(judge: &mut Judge, options: &Options, family: usize, group: usize) 
 
 fn run_selection(judge: &mut Judge, options: &Options) {
     for (index, family) in FAMILIES.iter().enumerate().filter(|(_, family)| options.wants(family.name)) {
-        let (before, began) = (judge.tally.cases, Instant::now());
+        let (cases, listings, began) = (judge.tally.cases, judge.tally.listings(), Instant::now());
         let groups = options.group.map_or(0..family.groups, |group| group..group + 1);
         for group in groups.step_by(options.share) {
             run_group(judge, options, index, group);
         }
-        println!("{:20} {:8} cases {:6.1} s", family.name, judge.tally.cases - before, began.elapsed().as_secs_f64());
+        let (cases, listings) = (judge.tally.cases - cases, judge.tally.listings() - listings);
+        let (name, seconds) = (family.name, began.elapsed().as_secs_f64());
+        println!("{name:20} {cases:8} cases, {listings:6} of them listings {seconds:6.1} s");
     }
 }
 

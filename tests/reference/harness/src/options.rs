@@ -1,11 +1,11 @@
 //! The command line.
 
 use crate::host::{exported, CALLS};
-use crate::program::Program;
+use crate::program::{Program, Programs};
 
 const USAGE: &str = "harness [--calls counts,name,rows,records,chart] [--seed N] [--seconds K]
-        [--family NAME] [--group N] [--patience S] [--stop-at-first] [--program PATH] [--every N]
-        [--null-when-empty] [--share N]";
+        [--family NAME] [--group N] [--patience S] [--stop-at-first] [--program PATH]
+        [--records-program PATH] [--every N] [--null-when-empty] [--share N]";
 
 pub struct Options {
     pub calls: [bool; 5],
@@ -18,7 +18,8 @@ pub struct Options {
     pub share: usize,
     pub stop_at_first: bool,
     pub null_when_empty: bool,
-    path: Option<String>,
+    chart_path: Option<String>,
+    records_path: Option<String>,
     every: u64,
 }
 
@@ -34,7 +35,8 @@ impl Options {
             share: 1,
             stop_at_first: false,
             null_when_empty: false,
-            path: None,
+            chart_path: None,
+            records_path: None,
             every: 50,
         };
         let mut words = std::env::args().skip(1);
@@ -50,7 +52,8 @@ impl Options {
                 "--share" => options.share = read_number(&value()).max(1) as usize,
                 "--stop-at-first" => options.stop_at_first = true,
                 "--null-when-empty" => options.null_when_empty = true,
-                "--program" => options.path = Some(value()),
+                "--program" => options.chart_path = Some(value()),
+                "--records-program" => options.records_path = Some(value()),
                 "--every" => options.every = read_number(&value()).max(1),
                 _ => stop("an unknown option"),
             }
@@ -62,8 +65,9 @@ impl Options {
         self.family.as_ref().is_none_or(|wanted| wanted == family)
     }
 
-    pub fn program(&self) -> Option<Program> {
-        self.path.clone().map(|path| Program { path, every: self.every })
+    pub fn programs(&self) -> Programs {
+        let program = |path: &Option<String>| path.clone().map(|path| Program { path, every: self.every });
+        Programs { chart: program(&self.chart_path), records: program(&self.records_path) }
     }
 }
 

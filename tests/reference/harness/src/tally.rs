@@ -6,10 +6,15 @@ use reference::order::PASSES;
 
 use crate::host::CALLS;
 
+/// The last refusal that the program gives.
+const MANY_POINTS: usize = 12;
+
 pub struct Tally {
     pub cases: u64,
     pub differences: u64,
-    pub listings: u64,
+    pub inputs: u64,
+    /// Listings of the program, by the number of the refusal that is due; charts at 0.
+    by_line: [u64; 15],
     by_call: [u64; 5],
     /// Answers due, by the refusal's number; accepted ones at 0.
     by_refusal: [u64; 15],
@@ -26,7 +31,8 @@ impl Tally {
         Tally {
             cases: 0,
             differences: 0,
-            listings: 0,
+            inputs: 0,
+            by_line: [0; 15],
             by_call: [0; 5],
             by_refusal: [0; 15],
             by_pass: [0; PASSES + 1],
@@ -48,6 +54,14 @@ impl Tally {
         self.by_pass[best_pass] += 1;
     }
 
+    pub fn note_listing(&mut self, refusal: u8) {
+        self.by_line[refusal as usize] += 1;
+    }
+
+    pub fn listings(&self) -> u64 {
+        self.by_line.iter().sum()
+    }
+
     pub fn report(&self, took: Duration) {
         for (call, name) in CALLS.iter().enumerate().filter(|&(call, _)| self.by_call[call] > 0) {
             let (time, family, group) = self.slowest[call];
@@ -55,14 +69,23 @@ impl Tally {
             let mean = self.spent[call].as_secs_f64() * 1e6 / calls as f64;
             println!("{name:8} {calls:9} calls, mean {mean:.1} us, slowest {longest:.1} us ({family}, group {group})");
         }
-        if self.listings > 0 {
-            println!("program  {:9} listings", self.listings);
+        println!("calls:    accepted {}; refusals {}", self.by_refusal[0], list_counts(&self.by_refusal[1..]));
+        if self.listings() > 0 {
+            let lines = list_counts(&self.by_line[1..=MANY_POINTS]);
+            println!("program:  {} listings, {} of them charts; refusals {lines}", self.listings(), self.by_line[0]);
         }
-        let met = self.by_refusal.iter().enumerate().skip(1).map(|(number, count)| format!("{number}: {count}"));
-        println!("accepted {}; refusals {}", self.by_refusal[0], met.collect::<Vec<_>>().join(", "));
+        if self.inputs > 0 {
+            println!("records:  {} inputs of the program", self.inputs);
+        }
         println!("charts by the pass that gives the order, from the start on: {:?}", self.by_pass);
         let rate = self.cases as f64 / took.as_secs_f64();
         println!("{:.1} s, {rate:.0} cases a second", took.as_secs_f64());
         println!("{} cases, {} differences", self.cases, self.differences);
     }
+}
+
+/// Counts with their numbers, from 1 on.
+fn list_counts(counts: &[u64]) -> String {
+    let met = counts.iter().enumerate().map(|(index, count)| format!("{}: {count}", index + 1));
+    met.collect::<Vec<_>>().join(", ")
 }

@@ -27,6 +27,8 @@ const KILL: i32 = 9;
 
 static FAMILY: AtomicUsize = AtomicUsize::new(0);
 static INDEX: AtomicUsize = AtomicUsize::new(0);
+/// Cases settled so far.
+static CASES: AtomicU64 = AtomicU64::new(0);
 static CALL: AtomicUsize = AtomicUsize::new(0);
 /// Milliseconds since the start at which the present call began, plus 1; 0 between calls.
 static SINCE: AtomicU64 = AtomicU64::new(0);
@@ -49,6 +51,10 @@ pub fn start(patience: Duration) {
 pub fn enter_group(family: usize, index: usize) {
     FAMILY.store(family, SeqCst);
     INDEX.store(index, SeqCst);
+}
+
+pub fn finish_case(cases: u64) {
+    CASES.store(cases, SeqCst);
 }
 
 /// Runs one call under watch and says how long it took.
@@ -75,7 +81,8 @@ fn end(what: &str) -> ! {
     let (family, call) = (FAMILIES[FAMILY.load(SeqCst)].name, CALLS[CALL.load(SeqCst)]);
     let inside = SINCE.load(SeqCst) > 0;
     let place = if inside { "in the library" } else { NOT_OURS };
-    let _ = writeln!(line, "difference: {what} {place}, call {call}, family {family}, group {}", INDEX.load(SeqCst));
+    let (case, group) = (CASES.load(SeqCst) + 1, INDEX.load(SeqCst));
+    let _ = writeln!(line, "difference: case {case}, call {call}, family {family}, group {group}: {what} {place}");
     let child = CHILD.load(SeqCst);
     unsafe {
         if child > 0 {

@@ -50,8 +50,14 @@ fn hand_out_rows(rows: &Result<Vec<usize>, Refusal>, buffer: &mut [u8]) -> Resul
     if on("never-written") {
         return calls::hand_out_rows(rows, &mut buffer.to_vec());
     }
-    let answer = calls::hand_out_rows(rows, buffer)?;
     let used = rows.as_ref().map_or(0, Vec::len);
+    if on("buffer-exact") && used > 0 && buffer.len() == used {
+        return Err(Refusal::ShortBuffer);
+    }
+    if on("buffer-one-short") && buffer.len() + 1 == used {
+        return calls::hand_out_rows(&rows.clone().map(|rows| rows[..used - 1].to_vec()), buffer);
+    }
+    let answer = calls::hand_out_rows(rows, buffer)?;
     if on("rest-cleared") {
         buffer[used..].fill(0);
     }

@@ -38,10 +38,14 @@ fn limits() -> Limits {
         limits.edges = 191;
     } else if on("gap-5") {
         limits.gap = 1..=5;
+    } else if on("gap-3") {
+        limits.gap = 1..=3;
     } else if on("gap-0") {
         limits.gap = 0..=4;
     } else if on("weight-256") {
         limits.weight = 0..=256;
+    } else if on("weight-254") {
+        limits.weight = 0..=254;
     } else if on("name-17") {
         limits.name_len = 1..=17;
     } else if on("name-empty") {

@@ -1,12 +1,13 @@
 -- `lists::many_edges` meets its contract: the first i edges stand in the array, the other entries are blank (`Filling`).
-use borrow.Author.Needs.{needs}
 use mathlib.Core.Path.{sym, ap, _∙_}
 use Prim.Native.Nat.{_-_}
-use native.Mathlib.Omega.{arith}
+use native.Mathlib.Nat.{le-trans, lt-of-lt-of-le}
+use lib.Dec.{lit≤}
 use Rattle.table.specs.Limits.{maxEdges}
 use Rattle.table.specs.Table.{edgeAt}
 use Rattle.graph.specs.Rows.{noEdge}
 use Rattle.table.specs.Reads.{edgeRead}
+use Rattle.table.proofs.FitLaws.{next-fits, left-less, scaled}
 use Rattle.table.proofs.ListLaws.{Filling, filling-start, filling-next, filling-fault, filling-end}
 use Rattle.table.proofs.lists.many_edges.Statement.{statement}
 use Rattle.table.proofs.lists.many_edges.Tie as tie
@@ -18,37 +19,37 @@ abbrev μ-loop : tie.MeasureT-loop
 μ-loop s n at m list₀ p₀ i₀ list p i = m - i
 
 blank-edges-requires : tie.Need-blank-edges-requires Inv-loop μ-loop
-blank-edges-requires c κs = search needs
+blank-edges-requires c κs = tt
 
 loop-holds : tie.Need-loop-holds Inv-loop μ-loop
 loop-holds c = rw (c .blank-edges .ensures) (filling-start _ _ _ _ _)
 
 edge-at-requires : tie.Need-edge-at-requires Inv-loop μ-loop
-edge-at-requires c κs = search needs
+edge-at-requires c κs = tt
 
 enum-known-f : tie.Need-enum-known-f Inv-loop μ-loop
-enum-known-f c = search needs
+enum-known-f c = c .match .keys1
 
 no-edges-requires : tie.Need-no-edges-requires Inv-loop μ-loop
-no-edges-requires c κs = search needs
+no-edges-requires c κs = tt
 
 returns : tie.Need-returns Inv-loop μ-loop
 returns c = rw (filling-fault _ _ _ _ _ _ _ _ (c .before .before .before .before .before .before .loop .inv) _ (c .before .before .before .before .before .loop-test .taken) (sym (c .before .before .before .before .edge-at .ensures) ∙ ap edgeRead (c .before .before .f .given .1))) (c .no-edges .ensures)
 
 enum-known-edge : tie.Need-enum-known-edge Inv-loop μ-loop
-enum-known-edge c = search needs
+enum-known-edge c = c .match .keys2
 
 mul-list : tie.Need-mul-list Inv-loop μ-loop
-mul-list c = search needs
+mul-list c = scaled _ _ (c .before .before .before .before .loop-test .taken) (le-trans (c .before .before .before .before .before .before .before .before .pre) (lit≤ tt))
 
 array-set-from-list : tie.Need-array-set-from-list Inv-loop μ-loop
-array-set-from-list c = omega (arith, c .before .before .before .before .before .loop .inv .long)
+array-set-from-list c = lt-of-lt-of-le (c .before .before .before .before .loop-test .taken) (c .before .before .before .before .before .before .before .before .pre)
 
 add-i : tie.Need-add-i Inv-loop μ-loop
-add-i c = search needs
+add-i c = next-fits _ _ (c .before .before .before .before .loop-test .taken) (c .before .before .before .before .before .before .before .before .fits .m)
 
 loop-less : tie.Need-loop-less Inv-loop μ-loop
-loop-less c = search needs
+loop-less c = left-less _ _ (c .before .before .before .before .loop-test .taken)
 
 loop-again : tie.Need-loop-again Inv-loop μ-loop
 loop-again c = filling-next _ _ _ _ _ _ _ _ (c .before .before .before .before .before .loop .inv) _ _ (c .before .before .before .before .before .before .before .before .pre) (c .before .before .before .before .loop-test .taken) (sym (c .before .before .before .edge-at .ensures) ∙ ap edgeRead (c .before .edge .given .1))

@@ -1,10 +1,11 @@
 -- `step::name_at` meets its contract: the loop has passed i bytes of the name, and the whole is those and what is left from here.
-use borrow.Author.Needs.{needs}
-use native.Mathlib.Omega.{arith}
 use mathlib.Core.Path.{_≡_, sym}
-use Prim.Native.Nat.{_-_, _≤_}
+use Prim.Native.Nat.{_-_, _≤_, zero-le}
+use native.Mathlib.Nat.{le-antisymm}
+use lib.Dec.{lit≤}
 use Rattle.table.specs.Number.{many, counted}
 use Rattle.table.specs.Table.{nameByteAt, nameAt}
+use Rattle.table.proofs.FitLaws.{next-le, next-fits, left-less, near}
 use Rattle.table.proofs.ManyLaws.{after, counted-start, counted-next, counted-fault, counted-end}
 use Rattle.table.proofs.NameLaws as byte
 use Rattle.table.proofs.step.name_at.Statement.{statement}
@@ -18,34 +19,34 @@ abbrev μ-loop : tie.MeasureT-loop
 
 loop-holds : tie.Need-loop-holds Inv-loop μ-loop
 unfolding nameAt
-loop-holds c = (omega arith, counted-start _ _ _)
+loop-holds c = (zero-le, counted-start _ _ _)
 
 returns : tie.Need-returns Inv-loop μ-loop
-returns c = sym (counted-fault _ _ _ _ _ (c .before .before .loop .inv .1) _ (c .before .loop-test .taken) (byte.byte-none _ _ (omega arith)))
+returns c = sym (counted-fault _ _ _ _ _ (c .before .before .loop .inv .1) _ (c .before .loop-test .taken) (byte.byte-none _ _ (c .if1 .taken)))
 
 shared-slice-read-b : tie.Need-shared-slice-read-b Inv-loop μ-loop
-shared-slice-read-b c = search needs
+shared-slice-read-b c = c .before .if1 .left
 
 returns-2 : tie.Need-returns-2 Inv-loop μ-loop
-returns-2 c = sym (counted-fault _ _ _ _ _ (c .before .before .before .before .loop .inv .1) _ (c .before .before .before .loop-test .taken) (byte.byte-low _ _ (omega arith) (omega arith)))
+returns-2 c = sym (counted-fault _ _ _ _ _ (c .before .before .before .before .loop .inv .1) _ (c .before .before .before .loop-test .taken) (byte.byte-low _ _ (c .before .before .if1 .left) (c .if2 .taken)))
 
 returns-3 : tie.Need-returns-3 Inv-loop μ-loop
-returns-3 c = sym (counted-fault _ _ _ _ _ (c .before .before .before .before .before .loop .inv .1) _ (c .before .before .before .before .loop-test .taken) (byte.byte-high _ _ (omega arith) (omega arith) (omega arith)))
+returns-3 c = sym (counted-fault _ _ _ _ _ (c .before .before .before .before .before .loop .inv .1) _ (c .before .before .before .before .loop-test .taken) (byte.byte-high _ _ (c .before .before .before .if1 .left) (c .before .if2 .left) (c .if3 .taken)))
 
 add-p : tie.Need-add-p Inv-loop μ-loop
-add-p c = search needs
+add-p c = near _ _ 1 (lit≤ tt) (c .before .before .before .before .before .before .good .0 .1) (c .before .before .before .if1 .left)
 
 add-i : tie.Need-add-i Inv-loop μ-loop
-add-i c = search needs
+add-i c = next-fits _ _ (c .before .before .before .before .loop-test .taken) (c .before .before .before .before .before .before .fits .len)
 
 loop-less : tie.Need-loop-less Inv-loop μ-loop
-loop-less c = search needs
+loop-less c = left-less _ _ (c .before .before .before .before .loop-test .taken)
 
 loop-again : tie.Need-loop-again Inv-loop μ-loop
-loop-again c = (omega arith, counted-next _ _ _ _ _ (c .before .before .before .before .before .loop .inv .1) _ _ (c .before .before .before .before .loop-test .taken) (byte.byte-good _ _ (omega arith) (omega arith) (omega arith)))
+loop-again c = (next-le _ _ (c .before .before .before .before .loop-test .taken), counted-next _ _ _ _ _ (c .before .before .before .before .before .loop .inv .1) _ _ (c .before .before .before .before .loop-test .taken) (byte.byte-good _ _ (c .before .before .before .if1 .left) (c .before .if2 .left) (c .if3 .left)))
 
 returns-4 : tie.Need-returns-4 Inv-loop μ-loop
-returns-4 c = sym (counted-end _ _ _ _ _ (c .before .loop .inv .1) (omega arith))
+returns-4 c = sym (counted-end _ _ _ _ _ (c .before .loop .inv .1) (le-antisymm (c .before .loop .inv .0) (c .loop-test .left)))
 
 pub name-at-spec : {M : Type 1} → statement M
 name-at-spec =

@@ -4,36 +4,35 @@ use Rattle.table.specs.Table.{outcome}
 use Rattle.table.specs.Calls.{tableRead}
 use Rattle.table.proofs.WholeLaws.{read-refused, read-accepted, read-count, lists-stop, lists-cut, lists-spare, lists-whole, table-whole}
 use Rattle.table.specs.declared.types.Verdict.the-variants.{Accepted}
-use borrow.Author.Needs.{needs}
 use Rattle.table.proofs.whole.read_lists.Statement.{statement}
 use Rattle.table.proofs.whole.read_lists.Tie as tie
 
 steps-at-requires : tie.Need-steps-at-requires
-steps-at-requires c κs = search needs
+steps-at-requires c κs = tt
 
 enum-known-verdict : tie.Need-enum-known-verdict
-enum-known-verdict c = search needs
+enum-known-verdict c = c .match .keys1
 
 refuse-table-requires : tie.Need-refuse-table-requires
-refuse-table-requires c κs = search needs
+refuse-table-requires c κs = tt
 
 enum-told : tie.Need-enum-told
-enum-told c = search needs
+enum-told c = c .match .keys2
 
 edges-at-requires : tie.Need-edges-at-requires
-edges-at-requires c κs = search needs
+edges-at-requires c κs = tt
 
 enum-known-judged : tie.Need-enum-known-judged
-enum-known-judged c = search needs
+enum-known-judged c = c .match2 .keys1
 
 refuse-table-requires-2 : tie.Need-refuse-table-requires-2
-refuse-table-requires-2 c κs = search needs
+refuse-table-requires-2 c κs = tt
 
 enum-told-2 : tie.Need-enum-told-2
-enum-told-2 c = search needs
+enum-told-2 c = c .match2 .keys2
 
 refuse-table-requires-3 : tie.Need-refuse-table-requires-3
-refuse-table-requires-3 c κs = search needs
+refuse-table-requires-3 c κs = tt
 
 returns : tie.Need-returns
 returns c = c .refuse-table3 .ensures ∙ ap (λ x. tableRead (outcome x)) (sym (lists-spare _ _ _ (read-accepted (c .before .before .before .before .before .before .before .before .steps-at .ensures) (c .before .before .before .before .before .before .enum-told .given .1)) (read-count (c .before .before .before .before .before .before .before .before .steps-at .ensures)) (read-accepted (c .before .before .before .before .before .edges-at .ensures) (c .before .before .before .enum-told2 .given .1)) (c .before .if1 .taken)))

@@ -1,14 +1,13 @@
 -- `whole::refuse_table` meets its contract: blank arrays are padded empty lists.
 use Rattle.table.specs.Calls.{padded}
-use borrow.Author.Needs.{needs}
 use Rattle.table.proofs.whole.refuse_table.Statement.{statement}
 use Rattle.table.proofs.whole.refuse_table.Tie as tie
 
 blank-steps-requires : tie.Need-blank-steps-requires
-blank-steps-requires c κs = search needs
+blank-steps-requires c κs = tt
 
 blank-edges-requires : tie.Need-blank-edges-requires
-blank-edges-requires c κs = search needs
+blank-edges-requires c κs = tt
 
 returns : tie.Need-returns
 unfolding padded

@@ -2,6 +2,7 @@
 
 use reference::random::Random;
 use reference::records::Record;
+use reference::words::write_words;
 
 use crate::drafts::{any_gaps, any_weights, dress, records_of};
 use crate::families::loops::{looped_edges, tailed_edges};
@@ -71,7 +72,10 @@ pub fn spoiled(judge: &mut Judge, random: &mut Random, _: usize) {
 }
 
 /// Counts at and past their limits, with good and bad records behind them.
-pub fn limits(judge: &mut Judge, random: &mut Random, _: usize) {
+pub fn limits(judge: &mut Judge, random: &mut Random, group: usize) {
+    if group == 0 {
+        cut_words(judge);
+    }
     for count in [0, 1, 191, 192, 193, 194, 256, 257, 448, 900] {
         let steps = random.pick(&[2, 3, 64]);
         let record = [0, 1, random.between(1, 4), random.below(256)];
@@ -93,6 +97,16 @@ pub fn limits(judge: &mut Judge, random: &mut Random, _: usize) {
             let mut record = [0, 1, 1, 1];
             record[place] = number;
             judge.judge_records(64, &[[2, 3, 1, 1], record]);
+        }
+    }
+}
+
+/// The program's input cut everywhere, with counts whose bytes differ.
+fn cut_words(judge: &mut Judge) {
+    for (steps, entries) in [(2, 2), (64, 255), (1 << 56 | 2, 2), (2, 1 << 56)] {
+        let words = write_words(steps, entries, &[[1, 0, 1, 1], [0, 1, 1, 1]]);
+        for len in 0..=words.len() {
+            judge.compare_cut_words(&words[..len]);
         }
     }
 }

@@ -3,8 +3,11 @@
 use std::io::{Read, Write};
 
 use host::fault::on;
+use host::wrong_chart::SAMPLE;
 use reference::chart::draw_chart;
 use reference::listing::{list_chart, print_chart, MAX_INPUT};
+use reference::order::{count_crossings, run_pass, start_order, PASSES};
+use reference::points::Layout;
 use reference::table::read_table;
 
 fn main() {
@@ -14,6 +17,9 @@ fn main() {
 }
 
 fn spoil(input: &[u8]) -> Vec<u8> {
+    if on("print-sample-always") {
+        return print_chart(SAMPLE);
+    }
     let right = print_chart(input);
     let text = String::from_utf8_lossy(&right).into_owned();
     if on("print-blank-at-end") {
@@ -34,10 +40,19 @@ fn spoil(input: &[u8]) -> Vec<u8> {
             *edge = edge.map(|_| point);
         }
     }
+    if on("print-last-crossings") {
+        chart.crossings = last_crossings(&chart.layout);
+    }
     if on("print-steps-first") {
         for row in &mut chart.order {
             row.sort_by_key(|&point| chart.layout.edge_of[point].is_some());
         }
     }
     list_chart(input, &table, &chart)
+}
+
+/// The crossings after the last pass, whichever order was the best.
+fn last_crossings(layout: &Layout) -> usize {
+    let order = (0..PASSES).fold(start_order(layout), |order, pass| run_pass(layout, order, pass % 2 == 0));
+    count_crossings(layout, &order)
 }

@@ -1,0 +1,9 @@
+// Stands in for peer.cpp where LEMON is missing.
+#include "peer.h"
+
+int peer_is_here(void) { return 0; }
+int solve_by_peer(const Instance *inst, PeerAnswer *answer) {
+  (void)inst;
+  (void)answer;
+  return 0;
+}

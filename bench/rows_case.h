@@ -1,0 +1,29 @@
+// An instance with what each program answered and how long it took.
+#ifndef ROWS_CASE_H
+#define ROWS_CASE_H
+#include "model.h"
+#include "peer.h"
+#include "rows_call.h"
+#include "textbook.h"
+
+enum { OURS, TEXTBOOK, LEMON, PROGRAMS };
+enum { ROUNDS = 15, MAX_CASES = 64 };
+
+typedef struct {
+  Instance inst;
+  uint8_t table[MAX_TABLE], rows[MAX_NODES];
+  size_t length;
+  PeerAnswer peer;
+  TextbookAnswer textbook;
+  double turn[PROGRAMS][ROUNDS], again[PROGRAMS], build[ROUNDS];
+  Work work;
+} Case;
+
+// The instances of one size, or those found by searching.
+typedef struct { Case cases[MAX_CASES]; size_t count, nodes, edges; } Group;
+
+// report.c
+void print_group(const char *title, const Group *group);
+void print_growth(const Group *groups, size_t count, const Group *searched);
+void print_worst(const Group *shapes, const Group *searched);
+#endif

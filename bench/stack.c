@@ -1,0 +1,118 @@
+// How deep each call goes into its stack:  stack FILE..
+// A call runs on a stack of its own that was painted before; the lowest byte that lost its paint tells the depth. What the way to
+// the call costs is found with a call that does nothing, and taken off. Inputs: the shapes of all sizes and the stored instances,
+// each as it is, with its edges cut until the chart is accepted, with a loop, and with its bytes cut short in many places.
+#define _XOPEN_SOURCE 700
+#include "rows_call.h"
+#include "yuvatondro.h"
+#include <stdio.h>
+#include <string.h>
+#include <ucontext.h>
+
+enum { STACK = 1 << 20, PAINT = 0xA5, SEEDS = 2, SIZES = 4, SMALLEST = 8, EDGES_A_NODE = 3, CUTS = 16, MAX_POINTS = 1024 };
+
+typedef struct { const Instance *inst; const uint8_t *table; size_t length; } Input;
+typedef struct { const char *name; uint64_t (*run)(const Input *); size_t depth; unsigned done, refused; } Call;
+
+static uint8_t rows[MAX_NODES];
+static uint16_t order[MAX_POINTS];
+static size_t records[4 * MAX_EDGES];
+
+static uint64_t run_nothing(const Input *in) { return in->length == 0; }
+static uint64_t run_counts(const Input *in) { return yuvatondro_counts(in->table, in->length); }
+static uint64_t run_name(const Input *in) { return yuvatondro_name(in->table, in->length, 0); }
+static uint64_t run_rows(const Input *in) { return yuvatondro_rows(in->table, in->length, rows, MAX_NODES); }
+static uint64_t run_records(const Input *in) { return yuvatondro_records(in->inst->nodes, records, 4 * in->inst->edges, rows, MAX_NODES); }
+static uint64_t run_chart(const Input *in) { return yuvatondro_chart(in->table, in->length, rows, MAX_NODES, order, MAX_POINTS); }
+
+static Call calls[] = { { "counts", run_counts, 0, 0, 0 }, { "name", run_name, 0, 0, 0 }, { "rows", run_rows, 0, 0, 0 },
+                        { "records", run_records, 0, 0, 0 }, { "chart", run_chart, 0, 0, 0 } };
+enum { CALLS = sizeof calls / sizeof *calls };
+
+static uint8_t stack[STACK];
+static ucontext_t here, there;
+static uint64_t (*chosen)(const Input *);
+static const Input *input;
+static uint64_t answer;
+
+static void enter(void) { answer = chosen(input); }
+static size_t depth_of(uint64_t (*run)(const Input *), const Input *in) {
+  size_t k = 0;
+  memset(stack, PAINT, STACK);
+  chosen = run;
+  input = in;
+  getcontext(&there);
+  there.uc_stack.ss_sp = stack;
+  there.uc_stack.ss_size = STACK;
+  there.uc_link = &here;
+  makecontext(&there, enter, 0);
+  swapcontext(&here, &there);
+  while (k < STACK && stack[k] == PAINT) k++;
+  return STACK - k;
+}
+static void measure(Call *call, const Input *in, size_t way) {
+  size_t depth = depth_of(call->run, in) - way;
+  if (depth > call->depth) call->depth = depth;
+  if (yuvatondro_refusal(answer) == 0) call->done++;
+  else call->refused++;
+}
+static void measure_all(const Instance *inst, const uint8_t *table, size_t length) {
+  const Input in = { inst, table, length };
+  size_t way = depth_of(run_nothing, &in);
+  for (size_t i = 0; i < inst->edges; i++) {
+    const Edge *e = &inst->edge[i];
+    const size_t record[4] = { e->from, e->to, e->gap, e->weight };
+    memcpy(&records[4 * i], record, sizeof record);
+  }
+  for (int k = 0; k < CALLS; k++) measure(&calls[k], &in, way);
+}
+static void measure_table(const Instance *inst) {
+  static uint8_t table[MAX_TABLE];
+  measure_all(inst, table, write_table(inst, table));
+}
+static void measure_cut_short(const Instance *inst) {
+  static uint8_t table[MAX_TABLE];
+  size_t length = write_table(inst, table);
+  for (size_t k = 0; k < CUTS; k++) measure_all(inst, table, length * k / CUTS);
+}
+static void measure_accepted(Instance inst) {
+  static uint8_t table[MAX_TABLE];
+  size_t length = write_table(&inst, table);
+  while (yuvatondro_chart(table, length, rows, MAX_NODES, order, MAX_POINTS) % 256 == YUVATONDRO_MANY_POINTS) {
+    inst.edges--;
+    length = write_table(&inst, table);
+  }
+  measure_all(&inst, table, length);
+}
+static void measure_loop(Instance inst) {
+  Edge *last = &inst.edge[inst.edges - 1];
+  *last = (Edge){ inst.edge[0].to, inst.edge[0].from, 1, 1 };
+  measure_table(&inst);
+}
+static void measure_instance(const Instance *inst) {
+  measure_table(inst);
+  measure_cut_short(inst);
+  measure_accepted(*inst);
+  measure_loop(*inst);
+}
+static void measure_size(size_t nodes) {
+  static Instance inst;
+  for (size_t shape = 0; shape < shape_count(); shape++)
+    for (int seed = 1; seed <= SEEDS; seed++) {
+      make_shape(&inst, shape, nodes, nodes * EDGES_A_NODE, seed);
+      measure_instance(&inst);
+    }
+}
+
+int main(int argc, char **argv) {
+  static Instance inst;
+  for (int k = 0; k < SIZES; k++) measure_size((size_t)SMALLEST << k);
+  for (int k = 1; k < argc; k++) {
+    if (!read_instance(&inst, argv[k])) return 1;
+    measure_instance(&inst);
+  }
+  printf("Deepest stack of each call (bytes)\n");
+  for (int k = 0; k < CALLS; k++)
+    printf("  %-8s %7zu, over %u inputs done and %u refused\n", calls[k].name, calls[k].depth, calls[k].done, calls[k].refused);
+  return 0;
+}

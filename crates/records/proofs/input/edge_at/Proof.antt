@@ -1,0 +1,50 @@
+use borrow.Author.Needs.{needs}
+use Rattle.records.specs.Input.{edgeAt}
+use Rattle.records.proofs.input.edge_at.Statement.{statement}
+use Rattle.records.proofs.input.edge_at.Tie as tie
+
+mul-at : tie.Need-mul-at
+mul-at c = search needs
+
+add-at : tie.Need-add-at
+add-at c = search needs
+
+word-at-requires : tie.Need-word-at-requires
+word-at-requires c κs = search needs
+
+add-word-at : tie.Need-add-word-at
+add-word-at c = search needs
+
+word-at-requires-2 : tie.Need-word-at-requires-2
+word-at-requires-2 c κs = search needs
+
+add-word-at-2 : tie.Need-add-word-at-2
+add-word-at-2 c = search needs
+
+word-at-requires-3 : tie.Need-word-at-requires-3
+word-at-requires-3 c κs = search needs
+
+add-word-at-3 : tie.Need-add-word-at-3
+add-word-at-3 c = search needs
+
+word-at-requires-4 : tie.Need-word-at-requires-4
+word-at-requires-4 c κs = search needs
+
+returns : tie.Need-returns
+unfolding edgeAt
+returns c = simp (c .before .before .before .word-at .ensures, c .before .before .word-at2 .ensures, c .before .word-at3 .ensures, c .word-at4 .ensures)
+
+pub edge-at-spec : {M : Type 1} → statement M
+edge-at-spec =
+    tie.close
+    (tie.spec
+    mul-at
+    add-at
+    word-at-requires
+    add-word-at
+    word-at-requires-2
+    add-word-at-2
+    word-at-requires-3
+    add-word-at-3
+    word-at-requires-4
+    returns)

@@ -1,0 +1,2 @@
+-- What the bytes of the program's input say.
+pub mod Input
