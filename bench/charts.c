@@ -80,16 +80,7 @@ static void run_all(Case *cases, size_t count) {
     for (size_t i = 0; i < count; i++) run_case(&cases[i], round);
 }
 
-static int compare(const void *a, const void *b) {
-  double x = *(const double *)a, y = *(const double *)b;
-  return (x > y) - (x < y);
-}
-static double median(const double *times) {
-  double sorted[ROUNDS];
-  memcpy(sorted, times, sizeof sorted);
-  qsort(sorted, ROUNDS, sizeof *sorted, compare);
-  return sorted[ROUNDS / 2];
-}
+static double median(const double *times) { return median_of(times, ROUNDS); }
 
 static void add_ratio(Ratios *r, double ratio, const char *name) {
   r->log_sum += log(ratio);

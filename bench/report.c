@@ -1,8 +1,8 @@
 // What the rows benchmark prints.
+#include "clock.h"
 #include "rows_case.h"
 #include <math.h>
 #include <stdio.h>
-#include <stdlib.h>
 #include <string.h>
 
 static const char *const names[PROGRAMS] = { "ours", "textbook", "LEMON" };
@@ -10,16 +10,7 @@ static const char *const names[PROGRAMS] = { "ours", "textbook", "LEMON" };
 typedef struct { double log_sum, worst; const char *worst_name; size_t count; } Means;
 
 static int is_here(int program) { return program != LEMON || peer_is_here(); }
-static int compare(const void *a, const void *b) {
-  double x = *(const double *)a, y = *(const double *)b;
-  return (x > y) - (x < y);
-}
-static double median(const double *times) {
-  double sorted[ROUNDS];
-  memcpy(sorted, times, sizeof sorted);
-  qsort(sorted, ROUNDS, sizeof *sorted, compare);
-  return sorted[ROUNDS / 2];
-}
+static double median(const double *times) { return median_of(times, ROUNDS); }
 static void add(Means *m, double value, const char *name) {
   m->log_sum += log(value);
   m->count++;
