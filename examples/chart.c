@@ -1,4 +1,4 @@
-/* The calls of the library, each once, in the order in which a table can be refused. */
+/* The calls on a table, in the order in which it can be refused. The call on edges without a table is in points.c. */
 #include "chart.h"
 
 /* The counts, the name of each step, and the edges. */
