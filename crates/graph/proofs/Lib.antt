@@ -4,3 +4,4 @@ pub mod DualityLaws
 pub mod PigeonLaws
 pub mod SearchLaws
 pub mod BoundLaws
+pub mod PlacementLaws

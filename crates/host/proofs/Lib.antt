@@ -1,2 +1,1 @@
-pub mod NarrowLaws
 pub mod WordLaws

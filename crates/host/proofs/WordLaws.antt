@@ -1,83 +1,149 @@
--- From the answers of the row finder to words.
+-- Words are taken apart into the numbers that were packed into them.
 use mathlib.Core.Path.{_≡_, refl, sym, ap, subst, _∙_}
-use mathlib.Core.List.{List}
-use Prim.Native.Nat.{ℕ, _+_, _*_}
+use mathlib.Core.List.{List, [], _∷_}
+use Prim.Native.Nat.{ℕ, _+_, _*_, _/_, _%_, _≤_, _<_}
 use native.Mathlib.Omega.{arith}
-use lib.ListN.{length, take}
-use Rattle.graph.specs.declared.Edge.{Edge}
-use Rattle.table.specs.declared.types.Refusal.{Refusal}
-use Rattle.table.specs.Refusal.{Outcome, done, refused}
-use Rattle.table.specs.Table.{Contents, read}
-use Rattle.table.proofs.CallLaws.{number-some}
-use Rattle.layering.specs.declared.types.RowsAnswer.{RowsAnswer}
-use Rattle.layering.specs.declared.types.RowsAnswer.the-variants.{Done, Refused}
-use Rattle.layering.specs.Calls.{rowsAnswer}
-use Rattle.layering.specs.Calls as rows
+use lib.ListN.{getD}
+use Rattle.outcome.specs.declared.Refusal.{Refusal}
+use Rattle.outcome.specs.declared.Refusal.the-variants.{Cut, Overlong, BadEdition, ManySteps, BadKind, OutOfRange, BadNameByte, ManyEdges, BadEnd, Spare, Loop, ManyPoints, ShortBuffer, NoStep}
+use Rattle.outcome.specs.Refusal.{numbersOf, stepOf, refusalIn}
 use Rattle.ordering.specs.declared.Figures.{Figures}
-use Rattle.ordering.specs.declared.ChartAnswer.{ChartAnswer}
-use Rattle.ordering.specs.declared.ChartAnswer.the-variants.{Drawn}
-use Rattle.ordering.specs.Calls.{chartCall, chartAnswer}
-use Rattle.ordering.specs.Calls as chart
-use Rattle.host.specs.Words.{refusalWord, doneWord, RecordsBest, TableBest, ChartBest}
+use Rattle.ordering.specs.Calls.{figuresNumbers, ChartBest}
+use Rattle.ordering.specs.Charting.{Small}
+use Rattle.host.specs.Words.{wordSteps, wordEdges, wordNameStart, wordNameLength, wordPoints, wordTotal, wordCrossings, wordRead, doneRead, countsRead, nameRead, chartRead, second, third, totalUnit, crossingsUnit, doneWord, countsWord, nameWord, chartWord}
 
--- the answer tells the outcome
-module _ (o : Outcome (Unit {0})) {a : RowsAnswer} where
-  pub told-refused : {f : Refusal} → a ≡ rowsAnswer o → a ≡ Refused f → o ≡ refused f
-  told-refused {f} e v = go o e
-    where
-      go : (o : Outcome (Unit {0})) → a ≡ rowsAnswer o → o ≡ refused f
-      go (done _) e = let z : _≡_ {A = ℕ} 0 1 = cc in absurd (omega arith)
-      go (refused r) e = cc
+-- ---- refusals
 
-  pub told-done : a ≡ rowsAnswer o → a ≡ Done → doneWord o ≡ 0
-  told-done e v = go o e
-    where
-      go : (o : Outcome (Unit {0})) → a ≡ rowsAnswer o → doneWord o ≡ 0
-      go (done _) e = refl
-      go (refused r) e = let z : _≡_ {A = ℕ} 0 1 = cc in absurd (omega arith)
+-- a refusal is read out of its word, whatever values another word of the call has
+pub refusal-read : (values : ℕ → List ℕ) (f : Refusal) → stepOf f < second → wordRead values (doneWord (numbersOf f)) ≡ numbersOf f
+refusal-read values Cut h = refl
+refusal-read values Overlong h = refl
+refusal-read values BadEdition h = refl
+refusal-read values ManySteps h = refl
+refusal-read values BadKind h = refl
+refusal-read values OutOfRange h = refl
+refusal-read values BadNameByte h = refl
+refusal-read values ManyEdges h = refl
+refusal-read values BadEnd h = refl
+refusal-read values Spare h = refl
+refusal-read values (Loop s) h = rw (low, eleven, step)
+  where
+    low : (11 + s * 0x100) % 0x100 ≡ 11
+    low = omega arith
 
--- no refusal is the word 0
-refusal-some : (f : Refusal) → refusalWord f ≡ 0 → ⊥
-refusal-some f e = omega (arith, number-some f)
+    eleven : (11 + s * 0x100) / 0x100 ≡ s
+    eleven = omega arith
 
--- demand 3, from the answer to the word
-pub records-best : (n : ℕ) (edges : List Edge) (buffer : List ℕ) (word : ℕ) {a : RowsAnswer} → a ≡ Done → rows.RecordsBest n edges a buffer
-    → RecordsBest n edges word buffer
-records-best n edges buffer word v b _ = subst (λ x. rows.RecordsBest n edges x buffer) v b
+    step : s % 0x100 ≡ s
+    step = omega arith
+refusal-read values ManyPoints h = refl
+refusal-read values ShortBuffer h = refl
+refusal-read values NoStep h = refl
 
-pub records-refused : (n : ℕ) (edges : List Edge) (buffer : List ℕ) (word : ℕ) (f : Refusal) → word ≡ refusalWord f → RecordsBest n edges word buffer
-records-refused n edges buffer word f e z = absurd (refusal-some f (sym e ∙ z))
+-- no more than two numbers come with a refusal, and one alone but with a loop, so its word is the same in every call
+pub refusal-short : (f : Refusal) → (getD (numbersOf f) 2 0 ≡ 0) × (getD (numbersOf f) 3 0 ≡ 0)
+refusal-short Cut = (refl, refl)
+refusal-short Overlong = (refl, refl)
+refusal-short BadEdition = (refl, refl)
+refusal-short ManySteps = (refl, refl)
+refusal-short BadKind = (refl, refl)
+refusal-short OutOfRange = (refl, refl)
+refusal-short BadNameByte = (refl, refl)
+refusal-short ManyEdges = (refl, refl)
+refusal-short BadEnd = (refl, refl)
+refusal-short Spare = (refl, refl)
+refusal-short (Loop s) = (refl, refl)
+refusal-short ManyPoints = (refl, refl)
+refusal-short ShortBuffer = (refl, refl)
+refusal-short NoStep = (refl, refl)
 
-pub table-best : (o : Outcome Contents) (buffer : List ℕ) (word : ℕ) {a : RowsAnswer} → a ≡ Done → rows.TableBest o a buffer → TableBest o word buffer
-table-best (done t) buffer word v b = records-best (length (t .steps)) (t .edges) buffer word v b
-table-best (refused r) buffer word v b = tt
+-- so much is said of a word by its call: the numbers read out of it, and which word it is
+module _ (f : Refusal) (low : stepOf f < second) {w : ℕ} (is : w ≡ doneWord (numbersOf f)) {numbers : List ℕ} (e : numbersOf f ≡ numbers) where
+  read-back : (values : ℕ → List ℕ) → wordRead values w ≡ numbers
+  read-back values = ap (wordRead values) is ∙ refusal-read values f low ∙ e
 
-pub table-refused : (o : Outcome Contents) (buffer : List ℕ) (word : ℕ) (f : Refusal) → word ≡ refusalWord f → TableBest o word buffer
-table-refused (done t) buffer word f e = records-refused (length (t .steps)) (t .edges) buffer word f e
-table-refused (refused r) buffer word f e = tt
+  pub done-refused : (doneRead w ≡ numbers) × (w ≡ doneWord numbers)
+  unfolding doneRead
+  done-refused = (read-back (λ w. []), is ∙ ap doneWord e)
 
--- ---- the whole chart
+  pub counts-refused : (countsRead w ≡ numbers) × (w ≡ countsWord numbers)
+  unfolding countsRead
+  counts-refused = (read-back (λ w. wordSteps w ∷ wordEdges w ∷ []), omega (arith, is, refusal-short f) ∙ ap countsWord e)
 
-module _ (bytes rows order : List ℕ) {a : ChartAnswer} (e : a ≡ chartAnswer (chartCall bytes rows order .answer)) where
-  pub chart-told : {f : Figures} → a ≡ Drawn f → chartCall bytes rows order .answer ≡ done f
-  chart-told {f} v = go (chartCall bytes rows order .answer) e
-    where
-      go : (o : Outcome Figures) → a ≡ chartAnswer o → o ≡ done f
-      go (done x) e = cc
-      go (refused r) e = let z : _≡_ {A = ℕ} 0 1 = cc in absurd (omega arith)
+  pub chart-refused : (chartRead w ≡ numbers) × (w ≡ chartWord numbers)
+  unfolding chartRead
+  chart-refused = (read-back (λ w. wordPoints w ∷ wordTotal w ∷ wordCrossings w ∷ []), omega (arith, is, refusal-short f) ∙ ap chartWord e)
 
-  pub chart-not : {f : Refusal} → a ≡ ChartAnswer.Refused f → chartCall bytes rows order .answer ≡ refused f
-  chart-not {f} v = go (chartCall bytes rows order .answer) e
-    where
-      go : (o : Outcome Figures) → a ≡ chartAnswer o → o ≡ refused f
-      go (done x) e = let z : _≡_ {A = ℕ} 0 1 = cc in absurd (omega arith)
-      go (refused r) e = cc
+  -- the name call never tells a loop
+  pub name-refused : stepOf f ≡ 0 → (nameRead w ≡ numbers) × (w ≡ nameWord numbers)
+  unfolding nameRead
+  name-refused alone = (read-back (λ w. wordNameStart w ∷ wordNameLength w ∷ []), omega (arith, is, refusal-short f, alone) ∙ ap nameWord e)
 
-  -- demand 3, from the answer to the outcome
-  pub chart-best : (buffer : List ℕ) → chart.ChartBest (read bytes) a buffer → ChartBest (read bytes) (chartCall bytes rows order .answer) buffer
-  chart-best buffer b = go (read bytes) (chartCall bytes rows order .answer) e b
-    where
-      go : (t : Outcome Contents) (o : Outcome Figures) → a ≡ chartAnswer o → chart.ChartBest t a buffer → ChartBest t o buffer
-      go (done t) (done f) e b = subst (λ (x : ChartAnswer). chart.RowsBest (length (t .steps)) (t .edges) x buffer) e b
-      go (done t) (refused r) e b = tt
-      go (refused r) o e b = tt
+-- ---- values
+
+-- nothing is packed
+pub done-told : {numbers : List ℕ} → 0 ∷ [] ≡ numbers → (doneRead 0 ≡ numbers) × (0 ≡ doneWord numbers)
+unfolding doneRead
+done-told e = (e, ap doneWord e)
+
+-- what is packed comes out again, part by part
+module _ (steps edges : ℕ) (h : steps < 0x100) {numbers : List ℕ} (e : 0 ∷ steps ∷ edges ∷ [] ≡ numbers) where
+  abbrev counts : ℕ
+  counts = steps * second + edges * third
+
+  counts-low : counts % 0x100 ≡ 0
+  counts-low = omega arith
+
+  counts-first : counts / 0x100 % 0x100 ≡ steps
+  counts-first = omega arith
+
+  counts-rest : counts / 0x10000 ≡ edges
+  counts-rest = omega arith
+
+  pub counts-told : (countsRead counts ≡ numbers) × (counts ≡ countsWord numbers)
+  unfolding countsRead
+  counts-told = (rw (counts-low, counts-first, counts-rest) e, omega arith ∙ ap countsWord e)
+
+module _ (start len : ℕ) (h : len < 0x100) {numbers : List ℕ} (e : 0 ∷ start ∷ len ∷ [] ≡ numbers) where
+  abbrev name : ℕ
+  name = len * second + start * third
+
+  name-low : name % 0x100 ≡ 0
+  name-low = omega arith
+
+  name-first : name / 0x100 % 0x100 ≡ len
+  name-first = omega arith
+
+  name-rest : name / 0x10000 ≡ start
+  name-rest = omega arith
+
+  pub name-told : (nameRead name ≡ numbers) × (name ≡ nameWord numbers)
+  unfolding nameRead
+  name-told = (rw (name-low, name-first, name-rest) e, omega arith ∙ ap nameWord e)
+
+module _ (f : Figures) (small : Small f) {w : ℕ} (is : w ≡ chartWord (0 ∷ figuresNumbers f)) {numbers : List ℕ} (e : 0 ∷ figuresNumbers f ≡ numbers) where
+  chart-low : w % 0x100 ≡ 0
+  chart-low = omega arith
+
+  chart-points : w / 0x100 % 0x800 ≡ f .points
+  chart-points = omega arith
+
+  chart-total : w / 0x80000 % 0x2000000 ≡ f .total
+  chart-total = omega arith
+
+  chart-crossings : w / 0x100000000000 ≡ f .crossings
+  chart-crossings = omega arith
+
+  pub chart-told : (chartRead w ≡ numbers) × (w ≡ chartWord numbers)
+  unfolding chartRead
+  chart-told = (rw (chart-low, chart-points, chart-total, chart-crossings) e, is ∙ ap chartWord e)
+
+-- ---- demand 3, from the answer to the word
+
+-- the same is promised where the same is told
+pub same-told : {numbers : List ℕ} {P : Type 0} {told : List ℕ} → told ≡ numbers → {read : List ℕ} → read ≡ numbers → (refusalIn told ≡ 0 → P)
+    → refusalIn read ≡ 0 → P
+same-told e r b zero = b (ap refusalIn (e ∙ sym r) ∙ zero)
+
+pub chart-same : (bytes rows : List ℕ) {told read : List ℕ} → told ≡ read → ChartBest bytes told rows → ChartBest bytes read rows
+chart-same bytes rows e b = subst (λ l. ChartBest bytes l rows) e b

@@ -1,18 +1,21 @@
-// The calls for C. Slices are a pointer and a length; answers are packed into one word, as specs/Words.antt says.
+// The calls for C. Slices are a pointer and a length; answers are packed into one word. Each contract says what the header's functions read
+// out of the word, in the numbers that the call tells, which word it is, and what the lent buffers hold at the end. All of it is in
+// specs/Words.antt and in the specs of the layers below.
 use layering::types::RowsAnswer;
 use ordering::ChartAnswer;
 use ordering::Figures;
+use outcome::Refusal;
 use table::types::CountsAnswer;
 use table::types::NameAnswer;
-use table::types::Refusal;
 ghost use mathlib.Core.Path.{_≡_};
-ghost use Prim.Native.Nat.{_≤_};
-ghost use Rattle.table.specs.Table.{read};
+ghost use mathlib.Core.List.{_∷_};
+ghost use Prim.Native.Nat.{_<_};
+ghost use Rattle.outcome.specs.Refusal.{numbersOf, stepOf};
 ghost use Rattle.table.specs.Calls.{countsCall, nameCall};
-ghost use Rattle.layering.specs.Calls.{rowsCall, recordsOf, recordCall};
-ghost use Rattle.ordering.specs.Calls.{chartCall};
+ghost use Rattle.layering.specs.Calls.{rowsCall, recordsOf, recordCall, TableBest, RecordsBest};
+ghost use Rattle.ordering.specs.Calls.{figuresNumbers, chartCall, ChartBest};
 ghost use Rattle.ordering.specs.Charting.{Small};
-ghost use Rattle.host.specs.Words.{countsWord, nameWord, doneWord, refusalWord, stepOf, Narrow, TableBest, RecordsBest, chartWord, figuresWord, ChartBest};
+ghost use Rattle.host.specs.Words.{second, countsRead, countsWord, nameRead, nameWord, doneRead, doneWord, chartRead, chartWord};
 
 const SECOND: usize = 0x100;
 
@@ -25,6 +28,7 @@ const CROSSINGS: usize = 0x100000000000;
 // The steps and the edges of a table.
 #[no_mangle]
 pub extern "C" fn yuvatondro_counts(table: &[u8]) -> u64
+    ensures { λ r. ⌜ countsRead r ≡ countsCall (now (table .entry)) ⌝ }
     ensures { λ r. ⌜ r ≡ countsWord (countsCall (now (table .entry))) ⌝ }
 {
     match table::count_table(table) {
@@ -36,6 +40,7 @@ pub extern "C" fn yuvatondro_counts(table: &[u8]) -> u64
 // Where the name of a step stands in the table.
 #[no_mangle]
 pub extern "C" fn yuvatondro_name(table: &[u8], step: usize) -> u64
+    ensures { λ r. ⌜ nameRead r ≡ nameCall (now (table .entry)) step ⌝ }
     ensures { λ r. ⌜ r ≡ nameWord (nameCall (now (table .entry)) step) ⌝ }
 {
     match table::find_name(table, step) {
@@ -47,9 +52,10 @@ pub extern "C" fn yuvatondro_name(table: &[u8], step: usize) -> u64
 // The rows of a table to a lent buffer, one byte a step.
 #[no_mangle]
 pub extern "C" fn yuvatondro_rows(table: &[u8], rows: &mut [u8]) -> u64
-    ensures { λ r. ⌜ r ≡ doneWord (rowsCall (now (table .entry)) (now (rows .entry)) .answer) ⌝ }
+    ensures { λ r. ⌜ doneRead r ≡ rowsCall (now (table .entry)) (now (rows .entry)) .numbers ⌝ }
+    ensures { λ r. ⌜ r ≡ doneWord (rowsCall (now (table .entry)) (now (rows .entry)) .numbers) ⌝ }
     ensures { λ _. ⌜ now (rows .exit) ≡ rowsCall (now (table .entry)) (now (rows .entry)) .rows ⌝ }
-    ensures { λ r. ⌜ TableBest (read (now (table .entry))) r (now (rows .exit)) ⌝ }
+    ensures { λ r. ⌜ TableBest (now (table .entry)) (doneRead r) (now (rows .exit)) ⌝ }
 {
     match layering::find_rows(table, rows) {
         RowsAnswer::Refused(f) => refusal_word(f),
@@ -60,9 +66,10 @@ pub extern "C" fn yuvatondro_rows(table: &[u8], rows: &mut [u8]) -> u64
 // The same for edges that are lent as numbers, four to an edge.
 #[no_mangle]
 pub extern "C" fn yuvatondro_records(steps: usize, records: &[usize], rows: &mut [u8]) -> u64
-    ensures { λ r. ⌜ r ≡ doneWord (recordCall steps (recordsOf (now (records .entry))) (now (rows .entry)) .answer) ⌝ }
+    ensures { λ r. ⌜ doneRead r ≡ recordCall steps (recordsOf (now (records .entry))) (now (rows .entry)) .numbers ⌝ }
+    ensures { λ r. ⌜ r ≡ doneWord (recordCall steps (recordsOf (now (records .entry))) (now (rows .entry)) .numbers) ⌝ }
     ensures { λ _. ⌜ now (rows .exit) ≡ recordCall steps (recordsOf (now (records .entry))) (now (rows .entry)) .rows ⌝ }
-    ensures { λ r. ⌜ RecordsBest steps (recordsOf (now (records .entry))) r (now (rows .exit)) ⌝ }
+    ensures { λ r. ⌜ RecordsBest steps (recordsOf (now (records .entry))) (doneRead r) (now (rows .exit)) ⌝ }
 {
     match layering::find_rows_of_numbers(steps, records, rows) {
         RowsAnswer::Refused(f) => refusal_word(f),
@@ -73,10 +80,11 @@ pub extern "C" fn yuvatondro_records(steps: usize, records: &[usize], rows: &mut
 // The whole chart of a table: rows as above, and the points row by row to a lent buffer.
 #[no_mangle]
 pub extern "C" fn yuvatondro_chart(table: &[u8], rows: &mut [u8], order: &mut [u16]) -> u64
-    ensures { λ r. ⌜ r ≡ figuresWord (chartCall (now (table .entry)) (now (rows .entry)) (now (order .entry)) .answer) ⌝ }
+    ensures { λ r. ⌜ chartRead r ≡ chartCall (now (table .entry)) (now (rows .entry)) (now (order .entry)) .numbers ⌝ }
+    ensures { λ r. ⌜ r ≡ chartWord (chartCall (now (table .entry)) (now (rows .entry)) (now (order .entry)) .numbers) ⌝ }
     ensures { λ _. ⌜ now (rows .exit) ≡ chartCall (now (table .entry)) (now (rows .entry)) (now (order .entry)) .rows ⌝ }
     ensures { λ _. ⌜ now (order .exit) ≡ chartCall (now (table .entry)) (now (rows .entry)) (now (order .entry)) .order ⌝ }
-    ensures { λ _. ⌜ ChartBest (read (now (table .entry))) (chartCall (now (table .entry)) (now (rows .entry)) (now (order .entry)) .answer) (now (rows .exit)) ⌝ }
+    ensures { λ r. ⌜ ChartBest (now (table .entry)) (chartRead r) (now (rows .exit)) ⌝ }
 {
     match ordering::draw_chart(table, rows, order) {
         ChartAnswer::Refused(f) => refusal_word(f),
@@ -87,17 +95,17 @@ pub extern "C" fn yuvatondro_chart(table: &[u8], rows: &mut [u8], order: &mut [u
 // The numbers that go with a chart as a word.
 fn figures_word(f: Figures) -> u64
     requires { ⌜ Small f ⌝ }
-    ensures { λ r. ⌜ r ≡ chartWord f ⌝ }
+    ensures { λ r. ⌜ r ≡ chartWord (0 ∷ figuresNumbers f) ⌝ }
 {
     (f.points * SECOND + f.total * TOTAL + f.crossings * CROSSINGS) as u64
 }
 
 // A refusal as a word.
 fn refusal_word(f: Refusal) -> u64
-    requires { ⌜ Narrow f ⌝ }
-    ensures { λ r. ⌜ r ≡ refusalWord f ⌝ }
+    requires { ⌜ stepOf f < second ⌝ }
+    ensures { λ r. ⌜ r ≡ doneWord (numbersOf f) ⌝ }
 {
-    (table::number_of(f) + loop_step(f) * SECOND) as u64
+    (outcome::number_of(f) + loop_step(f) * SECOND) as u64
 }
 
 // The step that comes with a loop; 0 with any other refusal.

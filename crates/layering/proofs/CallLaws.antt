@@ -1,28 +1,40 @@
 -- The outcome of each call, by cases: what its parts found is what its definition says.
 use mathlib.Core.Path.{_≡_, refl, sym, ap, subst, _∙_}
-use mathlib.Core.List.{List}
+use mathlib.Core.List.{List, []}
+use mathlib.Core.Option.{Option, none, some}
 use Prim.Native.Nat.{ℕ, _-_, _≤_, _<_}
 use native.Mathlib.Omega.{arith}
 use borrow.Author.Tests.{le-leb, lt-leb}
 use lib.ListN.{length, take, length-append, length-replicate}
 use lib.Seq.{take-append-seam}
 use Rattle.graph.specs.declared.Edge.{Edge}
-use Rattle.graph.specs.Rows.{noEdge}
-use Rattle.table.specs.declared.types.Refusal.{Refusal}
-use Rattle.table.specs.declared.types.Refusal.the-variants.{ManySteps, ManyEdges}
+use Rattle.graph.specs.Rows.{noEdge, Best, Within}
+use Rattle.graph.specs.Search.{rowsOf}
+use Rattle.graph.proofs.BoundLaws.{best-is-rowsOf}
+use Rattle.outcome.specs.declared.Refusal.{Refusal}
+use Rattle.outcome.specs.declared.Refusal.the-variants.{ManySteps, ManyEdges}
+use Rattle.outcome.specs.declared.Verdict.{Verdict}
+use Rattle.outcome.specs.declared.Verdict.the-variants.{Accepted, Refused}
+use Rattle.table.specs.declared.types.Table.{Table}
 use Rattle.table.specs.declared.types.TableRead.{TableRead}
 use Rattle.table.specs.Limits.{maxSteps, maxEdges}
-use Rattle.table.specs.Refusal.{Outcome, done, refused}
-use Rattle.table.specs.Table.{Contents, read}
-use Rattle.table.specs.Calls.{padded, tableRead}
+use Rattle.outcome.specs.Refusal.{Outcome, done, refused, thenDo, told, bare, verdictNumbers, refusalIn}
+use Rattle.table.specs.Table.{Contents, contentsOf, read}
+use Rattle.table.specs.Calls.{tableRead, readCall}
+use Rattle.buffers.specs.Padded.{padded}
 use Rattle.table.proofs.FairLaws.{read-fair}
+use Rattle.outcome.proofs.ToldLaws.{verdict-accepted, verdict-refused}
+use Rattle.buffers.proofs.PaddedLaws.{padded-long}
 use Rattle.table.proofs.AnswerLaws.{Told}
 use Rattle.layering.specs.declared.types.RowsAnswer.{RowsAnswer}
 use Rattle.layering.specs.declared.types.RowsFound.{RowsFound}
-use Rattle.layering.specs.Calls.{rowsFound, rowsAnswer, rowsOfTable, rowsCall, recordsJudged, rowsOfRecords, recordCall, RecordsBest, TableBest}
-use Rattle.layering.specs.Placed.{foundOf, FairEdges, Placed, EdgesPlaced, HandedOut, contentsOf, TablePlaced, RecordsPlaced}
+use Rattle.layering.specs.declared.types.TableRows.{TableRows}
+use Rattle.layering.specs.Loops.{lowestOnLoop}
+use Rattle.layering.specs.Calls.{rowsFound, rowsNumbers, rowsOfTable, rowsCall, recordsJudged, rowsOfRecords, recordCall, TableBest, unlessLoop, rowsBy, totalBy, PlaceEnd, placeCall, placeEnd}
+use Rattle.layering.specs.Placed.{outcomeBy, heldRows, FairEdges, noRows, Placed, EdgesPlaced, RowsHandedOut, TablePlaced, RecordsPlaced}
 use Rattle.layering.specs.Lent.{RecordsAnswered}
 use Rattle.layering.proofs.StoreLaws.{handed-best}
+use Rattle.layering.proofs.PlaceLaws.{placed-refused, best-low}
 use Rattle.layering.proofs.RecordLaws.{judged-fair}
 
 -- ---- the record form
@@ -55,12 +67,12 @@ module _ (n : ℕ) (edges : List Edge) where
 
 -- what the call promises
 pub record-call : (n : ℕ) (edges : List Edge) (f : RowsFound) (old new : List ℕ) (r : RowsAnswer) → RecordsPlaced n edges f
-    → HandedOut (foundOf n f) old new r
+    → RowsHandedOut (heldRows n f) old new r
     → RecordsAnswered n edges old new r
 unfolding recordCall
 record-call n edges f old new r p h =
-    let k : HandedOut (rowsOfRecords n edges) old new r = subst (λ o. HandedOut o old new r) (p .says) h in
-    (k .answer, (k .rows, handed-best n edges (rowsOfRecords n edges) f p old new r k))
+    let k : RowsHandedOut (rowsOfRecords n edges) old new r = subst (λ o. RowsHandedOut o old new r) (p .says) h in
+    (k .numbers, (k .rows, handed-best n edges (rowsOfRecords n edges) f p old new r k))
 
 -- ---- the rows call
 
@@ -114,21 +126,93 @@ pub table-refused : (s : List ℕ) {f : Refusal} → read s ≡ refused f → ro
 unfolding rowsOfTable
 table-refused s e = rw e
 
--- the count of an array's steps is that of the table's, blank where it is refused
-pub table-steps : (o : Outcome Contents) → tableRead o .table .n ≡ length (contentsOf o .steps)
-table-steps (done t) = refl
-table-steps (refused r) = refl
-
-table-best : (o : Outcome Contents) (r : RowsAnswer) (new : List ℕ)
-    → RecordsBest (length (contentsOf o .steps)) (contentsOf o .edges) r new → TableBest o r new
-table-best (done t) r new b = b
-table-best (refused f) r new b = tt
-
 -- what the call promises
 pub table-call : (s : List ℕ) (f : RowsFound) (old new : List ℕ) (r : RowsAnswer) (n : ℕ) → n ≡ length (contentsOf (read s) .steps)
-    → TablePlaced s f → HandedOut (foundOf n f) old new r
-    → (r ≡ rowsAnswer (rowsCall s old .answer)) × ((new ≡ rowsCall s old .rows) × TableBest (read s) r new)
+    → TablePlaced s f → RowsHandedOut (heldRows n f) old new r
+    → (rowsNumbers r ≡ rowsCall s old .numbers) × ((new ≡ rowsCall s old .rows) × TableBest s (rowsNumbers r) new)
 unfolding rowsCall
 table-call s f old new r n e p h =
-    let k : HandedOut (rowsOfTable s) old new r = subst (λ o. HandedOut o old new r) (ap (λ i. foundOf i f) e ∙ p .says) h in
-    (k .answer, (k .rows, table-best (read s) r new (handed-best _ (contentsOf (read s) .edges) (rowsOfTable s) f p old new r k)))
+    let k : RowsHandedOut (rowsOfTable s) old new r = subst (λ o. RowsHandedOut o old new r) (ap (λ i. heldRows i f) e ∙ p .says) h in
+    (k .numbers, (k .rows, handed-best _ (contentsOf (read s) .edges) (rowsOfTable s) f p old new r k))
+
+-- ---- what a layer above builds on
+
+-- all that a refusal leaves is fixed
+no-rows : (f : RowsFound) {r : Refusal} → f .verdict ≡ Refused r → f .rows ≡ padded maxSteps 0 [] → f .total ≡ 0 → f ≡ noRows r
+no-rows f v w t = rw (← v, ← w, ← t)
+
+-- rows of a table that are not refused are those of fair edges without a loop
+module _ (s : List ℕ) where
+  abbrev steps-in : ℕ
+  steps-in = length (contentsOf (read s) .steps)
+
+  abbrev edges-in : List Edge
+  edges-in = contentsOf (read s) .edges
+
+  pub table-rows : {rows : List ℕ} → rowsOfTable s ≡ done rows → FairEdges steps-in edges-in × (rows ≡ rowsOf steps-in edges-in)
+  unfolding rowsOfTable rowsFound
+  table-rows {rows} e = go (read s) refl e
+    where
+      free : (n : ℕ) (edges : List Edge) (l : Option ℕ) → unlessLoop l (rowsOf n edges) ≡ done rows → rows ≡ rowsOf n edges
+      free n edges none e = cc
+      free n edges (some k) e = let z : _≡_ {A = ℕ} 0 1 = cc in absurd (omega arith)
+
+      go : (o : Outcome Contents) → read s ≡ o → thenDo o (λ t. rowsFound (length (t .steps)) (t .edges)) ≡ done rows
+          → FairEdges (length (contentsOf o .steps)) (contentsOf o .edges) × (rows ≡ rowsOf (length (contentsOf o .steps)) (contentsOf o .edges))
+      go (done t) r e =
+          let fair = read-fair s r in (
+            record { few-steps = fair .few-steps; few-edges = fair .few-edges; each = fair .each-edge },
+            free (length (t .steps)) (t .edges) (lowestOnLoop (length (t .steps)) (t .edges)) e,
+          )
+      go (refused r) q e = let z : _≡_ {A = ℕ} 0 1 = cc in absurd (omega arith)
+
+  -- The numbers, the arrays and demand 3 tell all that was found.
+  module _ (r : TableRows) (e : placeEnd r ≡ placeCall s) (b : TableBest s (verdictNumbers (r .found .verdict)) (r .found .rows)) where
+    pub table-found : TablePlaced s (r .found)
+    unfolding placeCall
+    table-found =
+        go (rowsOfTable s) refl (ap (λ (x : PlaceEnd). x .numbers) e) (ap (λ (x : PlaceEnd). x .rows) e) (ap (λ (x : PlaceEnd). x .sum) e)
+      where
+        go : (o : Outcome (List ℕ)) → rowsOfTable s ≡ o → verdictNumbers (r .found .verdict) ≡ told bare o
+            → r .found .rows ≡ padded maxSteps 0 (rowsBy o) → r .found .total ≡ totalBy edges-in o → Placed steps-in edges-in o (r .found)
+        go (refused k) w v p t = placed-refused steps-in edges-in (refused k) (r .found) (no-rows (r .found) (verdict-refused (r .found .verdict) v) p t) refl
+        go (done rows) w v p t =
+            let fair = table-rows w .0 in
+            let accepted = verdict-accepted (r .found .verdict) (ap refusalIn v) in
+            let best : Best steps-in edges-in (take steps-in (r .found .rows)) = b (ap refusalIn v) in
+            let within : Within steps-in edges-in = λ i h. (fair .each i h .from-in, fair .each i h .to-in) in
+            let same = sym (best-is-rowsOf steps-in edges-in (take steps-in (r .found .rows)) within best) ∙ sym (table-rows w .1) in
+            record {
+              says = rw accepted (ap done same);
+              blank = p;
+              summed = t;
+              best = λ _. best;
+              low =
+                  record {
+                    few = λ _. fair .few-steps;
+                    long = ap length p ∙ padded-long maxSteps 0 rows (omega (arith, fair .few-steps, ap length same, best .one-a-node));
+                    low = λ _. best-low steps-in edges-in (r .found .rows) fair best;
+                  };
+            }
+
+    pub table-here : r .table ≡ readCall s .table
+    unfolding placeCall
+    table-here = ap (λ (x : PlaceEnd). x .table) e
+
+    pub table-steps : r .table .n ≡ steps-in
+    unfolding readCall
+    table-steps = ap (λ (t : Table). t .n) table-here
+
+-- what the functions behind the call found is what it promises
+pub table-end : (s : List ℕ) (r : TableRows) → r .table ≡ readCall s .table → TablePlaced s (r .found)
+    → (placeEnd r ≡ placeCall s) × TableBest s (verdictNumbers (r .found .verdict)) (r .found .rows)
+unfolding placeCall
+table-end s r t p =
+    (rw (← t, ← p .blank, ← p .summed, numbers) refl, λ zero. p .best (verdict-accepted (r .found .verdict) zero))
+  where
+    numbers : told bare (rowsOfTable s) ≡ verdictNumbers (r .found .verdict)
+    numbers = go (r .found .verdict) (rowsOfTable s) (p .says)
+      where
+        go : (v : Verdict) (o : Outcome (List ℕ)) → outcomeBy v (take (length (contentsOf (read s) .steps)) (r .found .rows)) ≡ o → told bare o ≡ verdictNumbers v
+        go Accepted o h = rw (← h) refl
+        go (Refused k) o h = rw (← h) refl

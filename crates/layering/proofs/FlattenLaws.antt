@@ -1,5 +1,5 @@
 -- A loop that copies the fields of edges to flat arrays: it starts with none, a turn adds an edge, and its end has them all.
-use mathlib.Core.Path.{_≡_, sym, ap, _∙_}
+use mathlib.Core.Path.{_≡_, sym, ap, subst, _∙_}
 use mathlib.Core.List.{List}
 use Prim.Native.Nat.{ℕ, _+_, _≤_, _<_}
 use native.Mathlib.Omega.{arith}
@@ -7,11 +7,14 @@ use lib.ListN.{length, getD, take, replicate, set, length-set, length-replicate}
 use lib.Seq.{ext-getD, getD-take, length-take-le}
 use Rattle.graph.specs.declared.Edge.{Edge}
 use Rattle.graph.specs.Rows.{at, noEdge}
-use Rattle.network.specs.Network.{edgesOf}
-use Rattle.network.proofs.EdgesLaws.{length-edgesOf, edge-at}
+use Rattle.relaxation.specs.Network.{edgesOf}
+use Rattle.relaxation.proofs.EdgesLaws.{length-edgesOf, edge-at}
 use Rattle.table.specs.Limits.{maxEdges}
-use Rattle.layering.specs.Placed.{Even, Flattened}
-use Rattle.layering.proofs.SetLaws.{set-cases}
+use Rattle.layering.specs.declared.edges.Flat.{Flat}
+use Rattle.layering.specs.declared.types.RowsFound.{RowsFound}
+use Rattle.layering.specs.Flat.{frontEdges, Full}
+use Rattle.layering.specs.Placed.{FairEdges, Even, Flattened, EdgesPlaced}
+use Rattle.buffers.proofs.ListLaws.{set-cases}
 
 -- the first i entries of an array are those of f
 pub record Copied (f : ℕ → ℕ) (i : ℕ) (xs : List ℕ) : Type 0 where
@@ -51,10 +54,11 @@ pub record Flattening (edges : List Edge) (i : ℕ) (from to gap weight : List �
   pub gap-copied : Copied (gap-of edges) i gap
   pub weight-copied : Copied (weight-of edges) i weight
 
-module _ (edges : List Edge) where
-  abbrev blank : List ℕ
-  blank = replicate maxEdges 0
+-- an array that no field is copied to yet
+abbrev pub blank : List ℕ
+blank = replicate maxEdges 0
 
+module _ (edges : List Edge) where
   pub flattening-none : Flattening edges 0 blank blank blank blank
   flattening-none =
       record {
@@ -75,7 +79,7 @@ module _ (edges : List Edge) where
           weight-copied = copied-more (weight-of edges) i weight h (f .weight-copied);
         }
 
-    pub flattening-all : (m : ℕ) → m ≤ i → m ≤ maxEdges → length edges ≡ maxEdges → Flattened m edges from to gap weight
+    pub flattening-all : (m : ℕ) → m ≤ i → m ≤ maxEdges → m ≤ length edges → Flattened m edges from to gap weight
     flattening-all m l few long =
         record {
           same = ext-getD noEdge _ _ same-length same-at;
@@ -105,23 +109,49 @@ module _ (edges : List Edge) where
             edge-at (take m from) (take m to) (take m gap) (take m weight) k h
             ∙ rw (a, b, c, d, getD-take m edges k noEdge j)
 
--- the parts that are lent have one length
-module _ {m : ℕ} {edges : List Edge} {from to gap weight : List ℕ} (f : Flattened m edges from to gap weight) (few : m ≤ maxEdges) where
+-- ---- arrays that hold edges
+
+module _ {m : ℕ} {edges : List Edge} (f : Flat) (h : Flattened m edges (f .from) (f .to) (f .gap) (f .weight)) where
+  pub flattened-full : Full f
+  flattened-full = record { from-long = h .from-long; to-long = h .to-long; gap-long = h .gap-long; weight-long = h .weight-long }
+
+  pub flattened-fair : (n : ℕ) → FairEdges n (take m edges) → FairEdges n (frontEdges m f)
+  flattened-fair n = subst (FairEdges n) (sym (h .same))
+
+  pub flattened-placed : (n : ℕ) (r : RowsFound) → EdgesPlaced n (frontEdges m f) r → EdgesPlaced n (take m edges) r
+  flattened-placed n r = subst (λ l. EdgesPlaced n l r) (h .same)
+
+module _ (m : ℕ) (f : Flat) (full : Full f) (few : m ≤ maxEdges) where
   part : (xs : List ℕ) → length xs ≡ maxEdges → length (take m xs) ≡ m
   part xs e = length-take-le m xs (omega arith)
 
-  pub part-from : m ≡ length (take m from)
-  part-from = sym (part from (f .from-long))
+  -- the parts that are lent have one length
+  pub part-from : m ≡ length (take m (f .from))
+  part-from = sym (part (f .from) (full .from-long))
 
-  pub part-to : m ≡ length (take m to)
-  part-to = sym (part to (f .to-long))
+  pub part-to : m ≡ length (take m (f .to))
+  part-to = sym (part (f .to) (full .to-long))
 
-  pub part-gap : m ≡ length (take m gap)
-  part-gap = sym (part gap (f .gap-long))
+  pub part-gap : m ≡ length (take m (f .gap))
+  part-gap = sym (part (f .gap) (full .gap-long))
 
-  pub part-weight : m ≡ length (take m weight)
-  part-weight = sym (part weight (f .weight-long))
+  pub part-weight : m ≡ length (take m (f .weight))
+  part-weight = sym (part (f .weight) (full .weight-long))
 
-  pub flattened-even : Even (take m from) (take m to) (take m gap) (take m weight)
-  flattened-even =
+  pub front-even : Even (take m (f .from)) (take m (f .to)) (take m (f .gap)) (take m (f .weight))
+  front-even =
       record { to-long = sym part-to ∙ part-from; gap-long = sym part-gap ∙ part-from; weight-long = sym part-weight ∙ part-from }
+
+  pub front-length : length (frontEdges m f) ≡ m
+  front-length = length-edgesOf (take m (f .from)) (take m (f .to)) (take m (f .gap)) (take m (f .weight)) ∙ sym part-from
+
+  -- edge i, field by field
+  pub front-at : (i : ℕ) → i < m
+      → _≡_ {A = Edge} (record { from = at (f .from) i; to = at (f .to) i; gap = at (f .gap) i; weight = at (f .weight) i }) (getD (frontEdges m f) i noEdge)
+  front-at i h =
+      let inside : i < length (take m (f .from)) = omega (arith, part-from) in
+      let a = getD-take m (f .from) i 0 h in
+      let b = getD-take m (f .to) i 0 h in
+      let c = getD-take m (f .gap) i 0 h in
+      let d = getD-take m (f .weight) i 0 h in
+      sym (edge-at (take m (f .from)) (take m (f .to)) (take m (f .gap)) (take m (f .weight)) i inside ∙ rw (a, b, c, d))

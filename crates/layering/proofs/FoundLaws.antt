@@ -7,8 +7,8 @@ use Rattle.graph.specs.declared.Edge.{Edge}
 use Rattle.graph.specs.Rows.{Within}
 use Rattle.layering.specs.declared.settle.Found.{Found}
 use Rattle.layering.specs.declared.settle.Found.the-variants.{At, Nothing}
-use Rattle.network.specs.Network.{edgesOf}
-use Rattle.layering.specs.Flat.{Ends}
+use Rattle.relaxation.specs.Network.{edgesOf}
+use Rattle.layering.specs.Flat.{NodeEnds}
 use Rattle.layering.specs.Loops.{LoopIs, nodeOf, FoundIs, lowestOnLoop}
 use Rattle.layering.proofs.WalkLaws.{ends-within, loop-ends}
 use Rattle.layering.proofs.LoopLaws.{loop-iff}
@@ -26,7 +26,7 @@ module _ (n : ℕ) (edges : List Edge) (within : Within n edges) where
   found-computes Nothing f = loop-iff n edges within none .0 (f .0)
 
 -- an answer from the ends alone holds with any gaps and weights
-pub found-ends : (n : ℕ) (from to gap weight gap′ weight′ : List ℕ) (r : Found) → Ends n from to
+pub found-ends : (n : ℕ) (from to gap weight gap′ weight′ : List ℕ) (r : Found) → NodeEnds n from to
     → LoopIs n (edgesOf from to gap weight) (nodeOf r) → FoundIs n (edgesOf from to gap′ weight′) r
 found-ends n from to gap weight gap′ weight′ r ends l =
     found-is n (edgesOf from to gap′ weight′) (ends-within from to gap′ weight′ ends) r (loop-ends from to gap weight gap′ weight′ n (nodeOf r) l)
@@ -36,6 +36,6 @@ found-loop n edges (At s) f = f
 found-loop n edges Nothing f = f .0
 
 -- an answer without weights holds with any
-pub found-weighted : (n : ℕ) (from to gap weight : List ℕ) (r : Found) → Ends n from to
+pub found-weighted : (n : ℕ) (from to gap weight : List ℕ) (r : Found) → NodeEnds n from to
     → FoundIs n (edgesOf from to gap []) r → FoundIs n (edgesOf from to gap weight) r
 found-weighted n from to gap weight r ends f = found-ends n from to gap [] gap weight r ends (found-loop n (edgesOf from to gap []) r f)

@@ -15,4 +15,7 @@ pub mod PlaceLaws
 pub mod TotalLaws
 pub mod CallLaws
 pub mod LentLaws
+pub mod StepLaws
+pub mod HeightLaws
+pub mod MemoryLaws
 pub mod StarredLaws

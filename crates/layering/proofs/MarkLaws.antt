@@ -6,11 +6,11 @@ use Prim.Native.Nat.{ℕ, zero, suc, _<_, zero-le}
 use native.Mathlib.Omega.{arith}
 use lib.ListN.{length, set}
 use Rattle.graph.specs.Rows.{at}
-use Rattle.network.specs.Network.{edgesOf}
+use Rattle.relaxation.specs.Network.{edgesOf}
 use Rattle.layering.specs.Loops.{Walk}
 use Rattle.layering.specs.Scan.{Nowhere, Open, Blank}
 use Rattle.layering.proofs.WalkLaws.{walk-one, walk-more, walk-along}
-use Rattle.layering.proofs.SetLaws.{set-cases}
+use Rattle.buffers.proofs.ListLaws.{set-cases}
 
 -- each marked node is reached from s, and s is not marked
 pub record Sound (from to : List ℕ) (s : ℕ) (seen : List ℕ) : Type 0 where

@@ -5,29 +5,31 @@ use Prim.Native.Nat.{ℕ, suc, _*_, _-_, _≤_, _<_, suc-le-suc}
 use native.Mathlib.Nat.{le-trans, mul-le-mul-left, mul-le-mul-right, zero-lt-suc}
 use native.Mathlib.Decide.{decLt}
 use native.Mathlib.Omega.{arith}
-use lib.ListN.{length, take, replicate, length-replicate, List·getD-eq-default}
+use lib.ListN.{length, take, drop, replicate, length-replicate, List·getD-eq-default}
 use lib.Seq.{getD-take, length-take-le}
 use Rattle.graph.specs.declared.Edge.{Edge}
 use Rattle.graph.specs.Rows.{at, total, Best, Within}
 use Rattle.graph.specs.Search.{widest}
 use Rattle.graph.proofs.BoundLaws.{widest-le, best-bounded, best-is-rowsOf}
-use Rattle.network.specs.Limits.{gapLimit, weightLimit, rowLimit}
-use Rattle.network.specs.Network.{edgesOf, sum, Network, Bounded, Buffers}
-use Rattle.network.proofs.EdgesLaws.{length-edgesOf, edge-at}
-use Rattle.table.specs.declared.types.Refusal.{Refusal}
-use Rattle.table.specs.declared.types.Refusal.the-variants.{Loop}
-use Rattle.table.specs.declared.types.Verdict.{Verdict}
-use Rattle.table.specs.declared.types.Verdict.the-variants.{Accepted, Refused}
+use Rattle.relaxation.specs.Limits.{gapLimit, weightLimit, rowLimit}
+use Rattle.relaxation.specs.Network.{edgesOf, sum, Network, Bounded, Buffers}
+use Rattle.relaxation.proofs.EdgesLaws.{length-edgesOf, edge-at}
+use Rattle.outcome.specs.declared.Refusal.{Refusal}
+use Rattle.outcome.specs.declared.Refusal.the-variants.{Loop}
+use Rattle.outcome.specs.declared.Verdict.{Verdict}
+use Rattle.outcome.specs.declared.Verdict.the-variants.{Accepted, Refused}
 use Rattle.table.specs.Limits.{maxSteps, maxEdges, maxGap, maxWeight}
-use Rattle.table.specs.Refusal.{Outcome, done, refused}
+use Rattle.outcome.specs.Refusal.{Outcome, done, refused}
+use Rattle.buffers.specs.Padded.{padded}
+use Rattle.buffers.proofs.PaddedLaws.{padded-long, padded-same, drop-zeros}
 use Rattle.table.specs.Fair.{FairEdge}
 use Rattle.layering.specs.declared.types.RowsFound.{RowsFound}
 use Rattle.layering.specs.declared.settle.Found.{Found}
 use Rattle.layering.specs.declared.settle.Found.the-variants.{At, Nothing}
-use Rattle.layering.specs.Flat.{Ends, Gaps}
+use Rattle.layering.specs.Flat.{NodeEnds, Gaps}
 use Rattle.layering.specs.Loops.{FoundIs, LowRows}
 use Rattle.layering.specs.Calls.{rowsFound}
-use Rattle.layering.specs.Placed.{outcomeBy, topRow, FairEdges, Even, Solved, Placed, EdgesPlaced}
+use Rattle.layering.specs.Placed.{outcomeBy, topRow, FairEdges, Even, SolvedRows, noRows, Placed, EdgesPlaced}
 use Rattle.layering.proofs.BoundLaws.{low-rows-at}
 use Rattle.layering.proofs.FoundLaws.{found-weighted, found-computes}
 
@@ -37,14 +39,23 @@ refused-accepted : {X : Type 0} {v : Verdict} {f : Refusal} → v ≡ Refused f 
 refused-accepted e a = let z : _≡_ {A = ℕ} 0 1 = cc in absurd (omega arith)
 
 pub placed-refused : (n : ℕ) (edges : List Edge) (what : Outcome (List ℕ)) (f : RowsFound) {r : Refusal}
-    → f .verdict ≡ Refused r → length (f .rows) ≡ maxSteps → what ≡ refused r → Placed n edges what f
-placed-refused n edges what f e l w =
+    → f ≡ noRows r → what ≡ refused r → Placed n edges what f
+placed-refused n edges what f {r} e w =
     record {
-      says = ap (λ v. outcomeBy v (take n (f .rows))) e ∙ sym w;
-      best = λ a. refused-accepted e a;
-      summed = λ a. refused-accepted e a;
-      low = record { few = λ a. refused-accepted e a; long = l; low = λ a. refused-accepted e a };
+      says = ap (λ v. outcomeBy v (take n (f .rows))) verdict-is ∙ sym w;
+      blank = rw w (ap (λ (x : RowsFound). x .rows) e);
+      summed = rw w (ap (λ (x : RowsFound). x .total) e);
+      best = λ a. refused-accepted verdict-is a;
+      low =
+          record {
+            few = λ a. refused-accepted verdict-is a;
+            long = ap (λ (x : RowsFound). length (x .rows)) e ∙ padded-long maxSteps 0 [] (omega arith);
+            low = λ a. refused-accepted verdict-is a;
+          };
     }
+  where
+    verdict-is : f .verdict ≡ Refused r
+    verdict-is = ap (λ (x : RowsFound). x .verdict) e
 
 -- ---- the bound
 
@@ -71,17 +82,28 @@ pub part-count : (n k : ℕ) → n ≤ k → length (take n (replicate {A = ℕ}
 part-count n k h = length-take-le n (replicate k 0) (subst (λ (x : ℕ). n ≤ x) (sym (length-replicate {A = ℕ} k 0)) h)
 
 pub scratch-fits : (m n : ℕ) → m ≤ maxEdges → n ≤ maxSteps
-    → Buffers m n zeros (take m (replicate maxEdges 0)) (take n zeros) (take n zeros) (take n zeros) (take n zeros) (take n zeros)
+    → Buffers m n zeros (take m (replicate maxEdges 0)) (take n zeros) (take n zeros) (take n zeros) (take n zeros) (take n zeros) (take n zeros)
 scratch-fits m n few h =
     record {
       lengths = record { y-long = h; rank-long = part; parent-long = part; capacity-long = part };
       flow-long = part-count m maxEdges few;
       supply-long = part;
       demand-long = part;
+      lowest-long = part;
     }
   where
     part : length (take n zeros) ≡ n
     part = part-count n maxSteps h
+
+-- the rows behind the nodes were 0 and stay so
+pub solved-rows : {n : ℕ} {edges : List Edge} {rows : List ℕ} → Best n edges (take n rows) → length rows ≡ length zeros
+    → drop n rows ≡ drop n zeros → n ≤ maxSteps → SolvedRows n edges rows
+solved-rows {n} {edges} {rows} best long rest few =
+    record {
+      best = best;
+      blank = sym (padded-same maxSteps 0 n rows (omega (arith, long, length-replicate {A = ℕ} maxSteps 0)) (rest ∙ drop-zeros n maxSteps));
+      long = long ∙ length-replicate {A = ℕ} maxSteps 0;
+    }
 
 -- ---- flat slices of fair edges
 
@@ -103,7 +125,7 @@ module _ (from to gap weight : List ℕ) (n : ℕ) (fair : FairEdges n (edgesOf 
   pub fair-within : Within n edges
   fair-within i b = (fair .each i b .from-in, fair .each i b .to-in)
 
-  pub fair-ends : Ends n from to
+  pub fair-ends : NodeEnds n from to
   fair-ends = record { to-long = even .to-long; from-in = λ i h. fair-edge i h .from-in; to-in = λ i h. fair-edge i h .to-in }
 
   pub fair-gaps : Gaps (length from) gap
@@ -160,12 +182,13 @@ module _ (from to gap weight : List ℕ) (n : ℕ) (fair : FairEdges n (edgesOf 
       placed-free rows best =
           rw (found-computes n edges fair-within Nothing free) (ap done (best-is-rowsOf n edges (take n rows) fair-within best))
 
-      pub placed-done : (rows : List ℕ) (sum : ℕ) → Solved n edges rows → sum ≡ total edges (at (take n rows))
+      pub placed-done : (rows : List ℕ) (sum : ℕ) → SolvedRows n edges rows → sum ≡ total edges (at (take n rows))
           → EdgesPlaced n edges (record { verdict = Accepted; rows = rows; total = sum })
       placed-done rows sum s e =
           record {
             says = sym (placed-free rows (s .best));
+            blank = rw (placed-free rows (s .best)) (s .blank);
+            summed = rw (placed-free rows (s .best)) e;
             best = λ _. s .best;
-            summed = λ _. e;
             low = record { few = λ _. fair .few-steps; long = s .long; low = λ _. best-low n edges rows fair (s .best) };
           }

@@ -8,16 +8,19 @@ use native.Mathlib.Numerals.{add-one}
 use native.Mathlib.Omega.{arith}
 use borrow.Author.Tests.{ltb-true, leb-true, eqb-false}
 use lib.Dec.{leb, ltb, eqb}
-use lib.ListN.{length, getD, take, drop}
-use lib.Seq.{drop-cons, length-take-le, getD-take}
+use lib.ListN.{length, getD, drop}
+use lib.Seq.{drop-cons}
 use Rattle.graph.specs.declared.Edge.{Edge}
 use Rattle.graph.specs.Rows.{at, noEdge}
-use Rattle.table.specs.declared.types.Refusal.{Refusal}
-use Rattle.table.specs.declared.types.Refusal.the-variants.{BadEnd, OutOfRange}
-use Rattle.table.specs.Limits.{minGap, maxGap, maxWeight}
-use Rattle.table.specs.Refusal.{Outcome, done, refused, thenDo, demand}
+use Rattle.outcome.specs.declared.Refusal.{Refusal}
+use Rattle.outcome.specs.declared.Refusal.the-variants.{BadEnd, OutOfRange}
+use Rattle.table.specs.Limits.{minGap, maxGap, maxWeight, maxEdges}
+use Rattle.outcome.specs.Refusal.{Outcome, done, refused, thenDo, demand}
 use Rattle.table.specs.Fair.{FairEdge}
+use Rattle.layering.specs.declared.edges.Flat.{Flat}
+use Rattle.layering.specs.Flat.{frontEdges, Full}
 use Rattle.layering.specs.Calls.{recordsOf, endsGood, sizesGood, edgeJudged, recordsJudged}
+use Rattle.layering.proofs.FlattenLaws.{front-length, front-at}
 
 -- ---- where they stand
 
@@ -60,10 +63,6 @@ record-is (f ∷ t ∷ g ∷ w ∷ l) (suc i) h = four past-none (past 1) (past 
 never : {X : Type 0} {A : Type 0} {r : Refusal} {a : A} → refused r ≡ done a → X
 never e = let z : _≡_ {A = ℕ} 0 1 = cc in absurd (omega arith)
 
-demanded : {A : Type 0} (t : Bool) (r : Refusal) (o : Outcome A) {a : A} → demand t r o ≡ done a → (t ≡ true) × (o ≡ done a)
-demanded true r o e = (refl, e)
-demanded false r o e = never e
-
 both : (a b : Bool) → (a && b) ≡ true → (a ≡ true) × (b ≡ true)
 both true b e = (refl, e)
 both false b e = let z : _≡_ {A = ℕ} 0 1 = cc in absurd (omega arith)
@@ -76,11 +75,10 @@ apart x y false e f h = eqb-false x y e (sym h)
 judged-fair-one : (n : ℕ) (e : Edge) {u : Unit {0}} → edgeJudged n e ≡ done u → FairEdge n e
 unfolding edgeJudged
 judged-fair-one n e p =
-    let ends = demanded (endsGood n e) BadEnd _ p in
-    let range = demanded (sizesGood e) OutOfRange _ (ends .1) in
-    let x = both (ltb (e .from) n && ltb (e .to) n) (not (eqb (e .from) (e .to))) (ends .0) in
+    let good = go (endsGood n e) (sizesGood e) refl refl in
+    let x = both (ltb (e .from) n && ltb (e .to) n) (not (eqb (e .from) (e .to))) (good .0) in
     let y = both (ltb (e .from) n) (ltb (e .to) n) (x .0) in
-    let g = both (leb minGap (e .gap) && leb (e .gap) maxGap) (leb (e .weight) maxWeight) (range .0) in
+    let g = both (leb minGap (e .gap) && leb (e .gap) maxGap) (leb (e .weight) maxWeight) (good .1) in
     let k = both (leb minGap (e .gap)) (leb (e .gap) maxGap) (g .0) in
     record {
       from-in = ltb-true (e .from) n (y .0);
@@ -90,6 +88,12 @@ judged-fair-one n e p =
       gap-low = leb-true (e .gap) maxGap (k .1);
       weight-low = leb-true (e .weight) maxWeight (g .1);
     }
+  where
+    go : (a b : Bool) → endsGood n e ≡ a → sizesGood e ≡ b → (endsGood n e ≡ true) × (sizesGood e ≡ true)
+    go true true x y = (x, y)
+    go true false x y = never (simp (x, y) at p)
+    go false true x y = never (simp (x, y) at p)
+    go false false x y = never (simp (x, y) at p)
 
 -- what is left once an edge has passed
 passed-first : (o p : Outcome (Unit {0})) {u : Unit {0}} → thenDo o (λ _. p) ≡ done u → (o ≡ done tt) × (p ≡ done u)
@@ -102,34 +106,36 @@ judged-fair n [] p i h = absurd (not-suc-le-zero h)
 judged-fair n (e ∷ edges) p zero h = judged-fair-one n e (passed-first (edgeJudged n e) (recordsJudged n edges) p .0)
 judged-fair n (e ∷ edges) p (suc i) h = judged-fair n edges (passed-first (edgeJudged n e) (recordsJudged n edges) p .1) i (le-of-suc-le-suc h)
 
--- ---- a loop that judges the first m edges of an array: the whole is what is left from here on
+-- ---- a loop that judges the first m edges of flat arrays: the whole is what is left from here on
 
-pub record Judging (n m : ℕ) (edges : List Edge) (i : ℕ) : Type 0 where
-  pub left : recordsJudged n (take m edges) ≡ recordsJudged n (drop i (take m edges))
-  pub count : length (take m edges) ≡ m
+pub record Judging (n m : ℕ) (flat : Flat) (i : ℕ) : Type 0 where
+  pub left : recordsJudged n (frontEdges m flat) ≡ recordsJudged n (drop i (frontEdges m flat))
 
-module _ (n m : ℕ) (edges : List Edge) where
-  pub judging-none : m ≤ length edges → Judging n m edges 0
-  judging-none h = record { left = refl; count = length-take-le m edges h }
+module _ (n m : ℕ) (flat : Flat) where
+  pub judging-none : Judging n m flat 0
+  judging-none = record { left = refl }
 
-  module _ (i : ℕ) (j : Judging n m edges i) where
+  module _ (few : m ≤ maxEdges) (full : Full flat) (i : ℕ) (j : Judging n m flat i) where
+    abbrev this : Edge
+    this = edge (at (flat .from) i) (at (flat .to) i) (at (flat .gap) i) (at (flat .weight) i)
+
     module _ (h : i < m) where
-      first : (o : Outcome (Unit {0})) → edgeJudged n (getD edges i noEdge) ≡ o
-          → recordsJudged n (take m edges) ≡ thenDo o (λ _. recordsJudged n (drop (suc i) (take m edges)))
+      first : (o : Outcome (Unit {0})) → edgeJudged n this ≡ o
+          → recordsJudged n (frontEdges m flat) ≡ thenDo o (λ _. recordsJudged n (drop (suc i) (frontEdges m flat)))
       unfolding recordsJudged
       first o p =
-          j .left ∙ ap (recordsJudged n) (drop-cons (take m edges) i noEdge (omega (arith, j .count)))
-          ∙ ap (λ x. thenDo x (λ _. recordsJudged n (drop (suc i) (take m edges)))) (ap (edgeJudged n) (getD-take m edges i noEdge h) ∙ p)
+          j .left ∙ ap (recordsJudged n) (drop-cons (frontEdges m flat) i noEdge (omega (arith, front-length m flat full few)))
+          ∙ ap (λ x. thenDo x (λ _. recordsJudged n (drop (suc i) (frontEdges m flat)))) (ap (edgeJudged n) (sym (front-at m flat full few i h)) ∙ p)
 
-      pub judging-fault : {f : Refusal} → edgeJudged n (getD edges i noEdge) ≡ refused f → refused f ≡ recordsJudged n (take m edges)
+      pub judging-fault : {f : Refusal} → edgeJudged n this ≡ refused f → refused f ≡ recordsJudged n (frontEdges m flat)
       judging-fault {f} p = sym (first (refused f) p)
 
-      pub judging-more : edgeJudged n (getD edges i noEdge) ≡ done tt → Judging n m edges (i + 1)
-      judging-more p = record { left = rw (add-one i) (first (done tt) p); count = j .count }
+      pub judging-more : edgeJudged n this ≡ done tt → Judging n m flat (i + 1)
+      judging-more p = record { left = rw (add-one i) (first (done tt) p) }
 
-    pub judging-all : m ≤ i → done tt ≡ recordsJudged n (take m edges)
+    pub judging-all : m ≤ i → done tt ≡ recordsJudged n (frontEdges m flat)
     unfolding recordsJudged
-    judging-all h = sym (j .left ∙ ap (recordsJudged n) (drop-all (take m edges) i (omega (arith, j .count))))
+    judging-all h = sym (j .left ∙ ap (recordsJudged n) (drop-all (frontEdges m flat) i (omega (arith, front-length m flat full few))))
       where
         drop-all : (l : List Edge) (k : ℕ) → length l ≤ k → drop k l ≡ []
         drop-all [] zero h = refl

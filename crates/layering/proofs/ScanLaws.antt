@@ -8,9 +8,9 @@ use lib.ListN.{length, set, List·getD-eq-default}
 use Rattle.graph.specs.Rows.{at}
 use Rattle.layering.specs.declared.settle.Found.{Found}
 use Rattle.layering.specs.declared.settle.Found.the-variants.{At, Nothing}
-use Rattle.layering.specs.Flat.{Ends}
+use Rattle.layering.specs.Flat.{NodeEnds}
 use Rattle.layering.specs.Scan.{Nowhere, ScanIs, Blank}
-use Rattle.layering.proofs.SetLaws.{set-cases}
+use Rattle.buffers.proofs.ListLaws.{set-cases}
 
 -- ---- every entry is set to 0
 
@@ -56,6 +56,6 @@ module _ (P : ℕ → Type 0) where
       go k h l p (yes q) = s .nowhere k h q p
       go k h l p (no q) = w .nowhere k (omega arith) l p
 
-pub ends-up : {n k : ℕ} {from to : List ℕ} → n ≤ k → Ends n from to → Ends k from to
+pub ends-up : {n k : ℕ} {from to : List ℕ} → n ≤ k → NodeEnds n from to → NodeEnds k from to
 ends-up le e =
     record { to-long = e .to-long; from-in = λ i h. omega (arith, e .from-in i h); to-in = λ i h. omega (arith, e .to-in i h) }

@@ -1,4 +1,4 @@
--- Entries of a list after a store, and sums over its entries.
+-- How far the entries of a list are below a top, after a store.
 use mathlib.Core.Path.{_≡_, sym, ap, _∙_, subst}
 use mathlib.Core.List.{List, [], _∷_}
 use Prim.Native.Nat.{ℕ, zero, suc, _+_, _-_, _≤_, _<_}
@@ -8,15 +8,6 @@ use native.Mathlib.Omega.{arith}
 use lib.ListN.{length, set}
 use lib.Seq.{getD-set-same, getD-set-other}
 use Rattle.graph.specs.Rows.{at}
-
--- what holds of a stored value at its place, and of the old entry elsewhere
-pub set-cases : (P : ℕ → Type 0) (xs : List ℕ) (t x v : ℕ) → t < length xs → (t ≡ v → P x) → ((t ≡ v → ⊥) → P (at xs v))
-    → P (at (set xs t x) v)
-set-cases P xs t x v h same other = go (ℕ-discrete v t)
-  where
-    go : Dec (v ≡ t) → P (at (set xs t x) v)
-    go (yes e) = subst P (sym (ap (at (set xs t x)) e ∙ getD-set-same xs t x 0 h)) (same (sym e))
-    go (no d) = subst P (sym (getD-set-other xs t v x 0 d)) (other (λ e. d (sym e)))
 
 -- how far the entries are below top, added up
 unfoldable pub room : ℕ → List ℕ → ℕ

@@ -1,24 +1,25 @@
 -- Relaxation: rows stay at most the cap, and rows at rest keep every edge.
+use mathlib.Core.Path.{_≡_, ap}
 use mathlib.Core.List.{List}
 use Prim.Native.Nat.{ℕ, _+_, _≤_, _<_, zero-le}
 use native.Mathlib.Decide.{decLt}
 use native.Mathlib.Omega.{arith}
-use lib.ListN.{length, getD, set}
+use lib.ListN.{length, getD, set, replicate}
 use Rattle.graph.specs.Rows.{at, noEdge, Feasible}
-use Rattle.network.specs.Network.{edgesOf}
+use Rattle.relaxation.specs.Network.{edgesOf}
 use Rattle.layering.specs.Flat.{Gaps}
 use Rattle.layering.specs.Loops.{LoopFree}
-use Rattle.layering.specs.Scan.{Blank, Rests}
-use Rattle.network.proofs.EdgesLaws.{edge-at}
+use Rattle.layering.specs.Scan.{Rests}
+use Rattle.relaxation.proofs.EdgesLaws.{edge-at}
 use Rattle.layering.proofs.WalkLaws.{edge-listed}
 use Rattle.layering.proofs.LoopLaws.{feasible-free}
-use Rattle.layering.proofs.SetLaws.{set-cases}
+use Rattle.buffers.proofs.ListLaws.{set-cases, zero-at}
 
 pub record Capped (cap : ℕ) (y : List ℕ) : Type 0 where
   pub capped : (v : ℕ) → at y v ≤ cap
 
-pub capped-blank : (cap : ℕ) (y : List ℕ) → Blank y → Capped cap y
-capped-blank cap y b = record { capped = λ v. omega (arith, b .blank v) }
+pub capped-zeros : (cap n : ℕ) (y : List ℕ) → y ≡ replicate n 0 → Capped cap y
+capped-zeros cap n y e = record { capped = λ v. omega (arith, ap (λ l. at l v) e, zero-at n v) }
 
 pub capped-set : {cap : ℕ} {y : List ℕ} (t x : ℕ) → t < length y → x ≤ cap → Capped cap y → Capped cap (set y t x)
 capped-set {cap} {y} t x h le c =

@@ -7,9 +7,9 @@ use Rattle.table.specs.Number.{byteAt, numberAt, numberIn, many}
 use Rattle.table.specs.Table.{adjustAt, waitAt, kindAt, nameByteAt, nameAt, namedAt, stepAt, endAt, edgeBetween, edgeAt, stepsAt, edgesAt, listsAt, tableAt, read}
 use Rattle.layering.specs.Loops.{mark, sweep, sweeps, reached, onLoop, firstFrom, lowestOnLoop}
 use Rattle.layering.specs.Calls.{rowsFound, rowsOfTable}
-use Rattle.layering.specs.Starred.{tell, starred}
+use Rattle.layering.specs.Starred.{tellRows, starredRows}
 
 -- finding the rows of each case tells what the case says
-pub starred-told : map (λ c. tell (c .input)) starred ≡ map (λ c. c .told) starred
+pub starred-rows : map (λ c. tellRows (c .input)) starredRows ≡ map (λ c. c .expected) starredRows
 unfolding total run keepsOne keeps sieve extend placements lightest firstLightest widest rowsOf byteAt numberAt numberIn many adjustAt waitAt kindAt nameByteAt nameAt namedAt stepAt endAt edgeBetween edgeAt stepsAt edgesAt listsAt tableAt read mark sweep sweeps reached onLoop firstFrom lowestOnLoop rowsFound rowsOfTable
-starred-told = refl
+starred-rows = refl

@@ -9,11 +9,11 @@ use lib.ListN.{length, getD, take, drop}
 use lib.Seq.{drop-cons, getD-take}
 use Rattle.graph.specs.declared.Edge.{Edge}
 use Rattle.graph.specs.Rows.{at, noEdge, total, Kept}
-use Rattle.network.specs.Network.{edgesOf}
-use Rattle.network.proofs.EdgesLaws.{length-edgesOf, edge-at}
+use Rattle.relaxation.specs.Network.{edgesOf}
+use Rattle.relaxation.proofs.EdgesLaws.{length-edgesOf, edge-at}
 use Rattle.table.specs.Limits.{maxWeight}
-use Rattle.layering.specs.Flat.{Ends}
-use Rattle.layering.specs.Placed.{topRow, FairEdges, Even, Solved, Summable}
+use Rattle.layering.specs.Flat.{NodeEnds}
+use Rattle.layering.specs.Placed.{topRow, FairEdges, Even, SolvedRows, RowsSummable}
 use Rattle.layering.proofs.PlaceLaws.{fair-few, fair-ends, fair-edge, best-low}
 
 -- gaps play no part
@@ -45,7 +45,7 @@ module _ (from to weight rows : List ℕ) where
   pub summing-none : Summing from to weight rows 0 0
   summing-none = record { whole = omega arith; small = omega arith; some = omega arith }
 
-  module _ (s : Summable from to weight rows) (i : ℕ) (h : i < length from) where
+  module _ (s : RowsSummable from to weight rows) (i : ℕ) (h : i < length from) where
     -- one edge's share
     pub share-low : at weight i * (at rows (at to i) - at rows (at from i)) ≤ maxWeight * topRow
     share-low =
@@ -75,7 +75,7 @@ module _ (from to weight rows : List ℕ) where
 
 -- best rows of fair edges can be summed
 module _ (from to gap weight : List ℕ) (n : ℕ) (fair : FairEdges n (edgesOf from to gap weight)) (even : Even from to gap weight) where
-  pub solved-summable : (rows : List ℕ) → Solved n (edgesOf from to gap weight) rows → Summable from to weight (take n rows)
+  pub solved-summable : (rows : List ℕ) → SolvedRows n (edgesOf from to gap weight) rows → RowsSummable from to weight (take n rows)
   solved-summable rows s =
       record {
         ends = ends;
@@ -90,7 +90,7 @@ module _ (from to gap weight : List ℕ) (n : ℕ) (fair : FairEdges n (edgesOf 
       count : length (take n rows) ≡ n
       count = s .best .one-a-node
 
-      ends : Ends (length (take n rows)) from to
+      ends : NodeEnds (length (take n rows)) from to
       ends = rw count (fair-ends from to gap weight n fair even)
 
       low : (v : ℕ) → v < n → at (take n rows) v ≤ topRow

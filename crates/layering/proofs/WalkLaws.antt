@@ -6,11 +6,11 @@ use Prim.Native.Nat.{ℕ, _<_}
 use native.Mathlib.Omega.{arith}
 use lib.ListN.{length, getD}
 use Rattle.graph.specs.Rows.{at, noEdge, Within}
-use Rattle.network.specs.Network.{edgesOf}
-use Rattle.layering.specs.Flat.{Ends}
+use Rattle.relaxation.specs.Network.{edgesOf}
+use Rattle.layering.specs.Flat.{NodeEnds}
 use Rattle.layering.specs.Loops.{Walk, LoopIs}
 use Rattle.layering.specs.Loops as loops
-use Rattle.network.proofs.EdgesLaws.{length-edgesOf, edge-at}
+use Rattle.relaxation.proofs.EdgesLaws.{length-edgesOf, edge-at}
 
 module _ (from to gap weight : List ℕ) where
   pub edge-inside : {i : ℕ} → i < length from → i < length (edgesOf from to gap weight)
@@ -19,7 +19,7 @@ module _ (from to gap weight : List ℕ) where
   pub edge-listed : {i : ℕ} → i < length (edgesOf from to gap weight) → i < length from
   edge-listed h = omega (arith, length-edgesOf from to gap weight)
 
-  pub ends-within : {n : ℕ} → Ends n from to → Within n (edgesOf from to gap weight)
+  pub ends-within : {n : ℕ} → NodeEnds n from to → Within n (edgesOf from to gap weight)
   ends-within ends i h =
       let l = edge-listed h in
       rw (edge-at from to gap weight i l) (ends .from-in i l, ends .to-in i l)

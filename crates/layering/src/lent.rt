@@ -1,4 +1,5 @@
-// Lent edges, copied to an array: judged and placed.
+// Lent edges, copied to flat arrays: judged and placed.
+use crate::edges::Flat;
 use crate::place::place_edges;
 use crate::place::refuse_rows;
 use crate::store::hand_out;
@@ -6,18 +7,18 @@ use crate::types::Row;
 use crate::types::RowsAnswer;
 use crate::types::RowsFound;
 use graph::Edge;
+use outcome::Refusal;
+use outcome::Verdict;
 use table::limits::MAX_EDGES;
 use table::limits::MAX_GAP;
 use table::limits::MAX_STEPS;
 use table::limits::MAX_WEIGHT;
 use table::limits::MIN_GAP;
-use table::types::Refusal;
-use table::types::Verdict;
 ghost use mathlib.Core.Path.{_≡_};
 ghost use Prim.Native.Nat.{_≤_};
-ghost use lib.ListN.{length, take};
 ghost use Rattle.table.specs.Limits.{maxEdges};
 ghost use Rattle.layering.specs.Calls.{edgeJudged, recordsJudged};
+ghost use Rattle.layering.specs.Flat.{frontEdges, Full};
 ghost use Rattle.layering.specs.Placed.{outcomeBy};
 ghost use Rattle.layering.specs.Lent.{copied, LentPlaced, LentAnswered};
 
@@ -31,31 +32,19 @@ pub fn count_copied(m: usize) -> usize
     0
 }
 
-// An array that no edge is copied to yet.
-pub fn blank_edges() -> [Edge; MAX_EDGES]
-    ensures { λ r. ⌜ length r ≡ maxEdges ⌝ }
-{
-    [Edge {
-        from: 0,
-        to: 0,
-        gap: 0,
-        weight: 0,
-    }; MAX_EDGES]
-}
-
 // The answer for n steps and m lent edges, and its rows in a buffer.
-pub fn answer_lent(n: usize, edges: [Edge; MAX_EDGES], m: usize, rows: &mut [Row]) -> RowsAnswer
-    requires { ⌜ length edges ≡ maxEdges ⌝ }
-    ensures { λ r. ⌜ LentAnswered n m edges (now (rows .entry)) (now (rows .exit)) r ⌝ }
+pub fn answer_lent(n: usize, flat: Flat, m: usize, rows: &mut [Row]) -> RowsAnswer
+    requires { ⌜ Full flat ⌝ }
+    ensures { λ r. ⌜ LentAnswered n m flat (now (rows .entry)) (now (rows .exit)) r ⌝ }
 {
-    let found = place_lent(n, edges, m);
+    let found = place_lent(n, flat, m);
     hand_out(found, n, rows)
 }
 
 // The rows of m lent edges, between n steps.
-fn place_lent(n: usize, edges: [Edge; MAX_EDGES], m: usize) -> RowsFound
-    requires { ⌜ length edges ≡ maxEdges ⌝ }
-    ensures { λ r. ⌜ LentPlaced n m edges r ⌝ }
+fn place_lent(n: usize, flat: Flat, m: usize) -> RowsFound
+    requires { ⌜ Full flat ⌝ }
+    ensures { λ r. ⌜ LentPlaced n m flat r ⌝ }
 {
     if MAX_STEPS < n {
         return refuse_rows(Refusal::ManySteps);
@@ -63,19 +52,24 @@ fn place_lent(n: usize, edges: [Edge; MAX_EDGES], m: usize) -> RowsFound
     if MAX_EDGES < m {
         return refuse_rows(Refusal::ManyEdges);
     }
-    match judge_edges(n, edges, m) {
+    match judge_edges(n, flat, m) {
         Verdict::Refused(f) => refuse_rows(f),
-        Verdict::Accepted => place_edges(edges, m, n),
+        Verdict::Accepted => place_edges(flat, m, n),
     }
 }
 
 // The first m edges between n steps, each in turn: the first fault decides.
-fn judge_edges(n: usize, edges: [Edge; MAX_EDGES], m: usize) -> Verdict
-    requires { ⌜ (m ≤ maxEdges) × (length edges ≡ maxEdges) ⌝ }
-    ensures { λ r. ⌜ outcomeBy r tt ≡ recordsJudged n (take m edges) ⌝ }
+fn judge_edges(n: usize, flat: Flat, m: usize) -> Verdict
+    requires { ⌜ (m ≤ maxEdges) × Full flat ⌝ }
+    ensures { λ r. ⌜ outcomeBy r tt ≡ recordsJudged n (frontEdges m flat) ⌝ }
 {
     for i in 0..m {
-        let e = edges[i];
+        let e = Edge {
+            from: flat.from[i],
+            to: flat.to[i],
+            gap: flat.gap[i],
+            weight: flat.weight[i],
+        };
         match judge_edge(n, e) {
             Verdict::Refused(f) => return Verdict::Refused(f),
             Verdict::Accepted => {}

@@ -1,7 +1,7 @@
 // The row finder: the best rows of a table's edges, or of edges that are lent, in a buffer that is lent.
 //
-// Every call takes any input, ends, and has no condition. Its contract puts its answer and its buffer equal to what a definition of
-// specs/Calls.antt makes of the input, and says of the rows of an answer that they are the best.
+// Every call takes any input, ends, and has no condition. Its contract puts its answer, told in numbers, and its buffer equal to what a
+// definition of specs/Calls.antt makes of the input, and says of the rows of an answer that they are the best.
 mod edges;
 mod lent;
 mod loops;
@@ -13,31 +13,30 @@ mod store;
 mod total;
 pub mod types;
 
+use crate::edges::flatten_edges;
 use crate::lent::answer_lent;
 use crate::numbers::FIELDS;
-use crate::numbers::collect_numbers;
+use crate::numbers::flatten_numbers;
 use crate::place::place_edges;
 use crate::place::refuse_rows;
-use crate::records::collect_records;
+use crate::records::flatten_records;
 use crate::store::hand_out;
 use crate::types::Row;
 use crate::types::RowsAnswer;
 use crate::types::TableRows;
 use graph::Edge;
+use outcome::Verdict;
 use table::read_table;
-use table::types::Verdict;
 ghost use mathlib.Core.Path.{_≡_};
-ghost use Rattle.table.specs.Table.{read};
-ghost use Rattle.table.specs.Calls.{tableRead};
-ghost use Rattle.layering.specs.Calls.{rowsCall, rowsAnswer, recordsOf, recordCall, TableBest, RecordsBest};
-ghost use Rattle.layering.specs.Placed.{TablePlaced};
+ghost use Rattle.outcome.specs.Refusal.{verdictNumbers};
+ghost use Rattle.layering.specs.Calls.{rowsCall, rowsNumbers, recordsOf, recordCall, TableBest, RecordsBest, placeCall, placeEnd};
 
 // A table's rows to the first entries of a buffer, one a step. Refuses as the reader does, then by a loop with its lowest step, then a
 // buffer with fewer entries than steps.
 pub fn find_rows(bytes: &[u8], rows: &mut [Row]) -> RowsAnswer
-    ensures { λ r. ⌜ r ≡ rowsAnswer (rowsCall (now (bytes .entry)) (now (rows .entry)) .answer) ⌝ }
+    ensures { λ r. ⌜ rowsNumbers r ≡ rowsCall (now (bytes .entry)) (now (rows .entry)) .numbers ⌝ }
     ensures { λ _. ⌜ now (rows .exit) ≡ rowsCall (now (bytes .entry)) (now (rows .entry)) .rows ⌝ }
-    ensures { λ r. ⌜ TableBest (read (now (bytes .entry))) r (now (rows .exit)) ⌝ }
+    ensures { λ r. ⌜ TableBest (now (bytes .entry)) (rowsNumbers r) (now (rows .exit)) ⌝ }
 {
     let placed = place_table(bytes);
     let found = placed.found;
@@ -48,28 +47,29 @@ pub fn find_rows(bytes: &[u8], rows: &mut [Row]) -> RowsAnswer
 // by its ends (9), then by its gap and weight (6), then a loop (11), then a short buffer (13). Of a list longer than the limit no record
 // is read.
 pub fn find_rows_of_records(n: usize, records: &[Edge], rows: &mut [Row]) -> RowsAnswer
-    ensures { λ r. ⌜ r ≡ rowsAnswer (recordCall n (now (records .entry)) (now (rows .entry)) .answer) ⌝ }
+    ensures { λ r. ⌜ rowsNumbers r ≡ recordCall n (now (records .entry)) (now (rows .entry)) .numbers ⌝ }
     ensures { λ _. ⌜ now (rows .exit) ≡ recordCall n (now (records .entry)) (now (rows .entry)) .rows ⌝ }
-    ensures { λ r. ⌜ RecordsBest n (now (records .entry)) r (now (rows .exit)) ⌝ }
+    ensures { λ r. ⌜ RecordsBest n (now (records .entry)) (rowsNumbers r) (now (rows .exit)) ⌝ }
 {
-    let edges = collect_records(records);
-    answer_lent(n, edges, records.len(), rows)
+    let flat = flatten_records(records);
+    answer_lent(n, flat, records.len(), rows)
 }
 
 // The same for edges that are lent as a list of numbers, four to an edge: from, to, gap, weight; fewer than four left over are no edge.
 pub fn find_rows_of_numbers(n: usize, numbers: &[usize], rows: &mut [Row]) -> RowsAnswer
-    ensures { λ r. ⌜ r ≡ rowsAnswer (recordCall n (recordsOf (now (numbers .entry))) (now (rows .entry)) .answer) ⌝ }
+    ensures { λ r. ⌜ rowsNumbers r ≡ recordCall n (recordsOf (now (numbers .entry))) (now (rows .entry)) .numbers ⌝ }
     ensures { λ _. ⌜ now (rows .exit) ≡ recordCall n (recordsOf (now (numbers .entry))) (now (rows .entry)) .rows ⌝ }
-    ensures { λ r. ⌜ RecordsBest n (recordsOf (now (numbers .entry))) r (now (rows .exit)) ⌝ }
+    ensures { λ r. ⌜ RecordsBest n (recordsOf (now (numbers .entry))) (rowsNumbers r) (now (rows .exit)) ⌝ }
 {
-    let edges = collect_numbers(numbers);
-    answer_lent(n, edges, numbers.len() / FIELDS, rows)
+    let flat = flatten_numbers(numbers);
+    answer_lent(n, flat, numbers.len() / FIELDS, rows)
 }
 
-// The table that the bytes write down, with its rows and their total: what a layer above builds on.
+// The table that the bytes write down, with its rows and their total: what a layer above builds on. Refuses as the reader does, then by a
+// loop; then the rows are blank and the total is 0.
 pub fn place_table(bytes: &[u8]) -> TableRows
-    ensures { λ r. ⌜ r .table ≡ tableRead (read (now (bytes .entry))) .table ⌝ }
-    ensures { λ r. ⌜ TablePlaced (now (bytes .entry)) (r .found) ⌝ }
+    ensures { λ r. ⌜ placeEnd r ≡ placeCall (now (bytes .entry)) ⌝ }
+    ensures { λ r. ⌜ TableBest (now (bytes .entry)) (verdictNumbers (r .found .verdict)) (r .found .rows) ⌝ }
 {
     let t = read_table(bytes);
     let verdict = t.verdict;
@@ -81,9 +81,10 @@ pub fn place_table(bytes: &[u8]) -> TableRows
         },
         Verdict::Accepted => {
             let edges = table.edges;
+            let flat = flatten_edges(edges, table.m);
             TableRows {
                 table: table,
-                found: place_edges(edges, table.m, table.n),
+                found: place_edges(flat, table.m, table.n),
             }
         }
     }

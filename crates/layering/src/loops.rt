@@ -6,8 +6,8 @@ ghost use mathlib.Core.Path.{_≡_};
 ghost use mathlib.Core.List.{[]};
 ghost use Prim.Native.Nat.{_≤_};
 ghost use lib.ListN.{length};
-ghost use Rattle.network.specs.Network.{edgesOf};
-ghost use Rattle.layering.specs.Flat.{Ends, Gaps};
+ghost use Rattle.relaxation.specs.Network.{edgesOf};
+ghost use Rattle.layering.specs.Flat.{NodeEnds, Gaps};
 ghost use Rattle.layering.specs.Loops.{LoopIs, nodeOf, FoundIs};
 ghost use Rattle.layering.specs.Scan.{ScanIs, Open, Blank};
 
@@ -22,7 +22,7 @@ pub fn find_loop(
     y: &mut [usize],
     seen: &mut [u8],
 ) -> Found
-    requires { ⌜ Ends n (now from) (now to) ⌝ }
+    requires { ⌜ NodeEnds n (now from) (now to) ⌝ }
     requires { ⌜ Gaps (length (now from)) (now gap) ⌝ }
     requires { ⌜ n ≤ length (now y) ⌝ }
     requires { ⌜ n ≤ length (now seen) ⌝ }
@@ -37,7 +37,7 @@ pub fn find_loop(
 // The lowest of n nodes that edges lead back to. Each node in turn marks what it reaches, until it is reached itself or no edge is
 // open. The marks are scratch.
 pub fn lowest_on_loop(from: &[usize], to: &[usize], n: usize, seen: &mut [u8]) -> Found
-    requires { ⌜ Ends n (now from) (now to) ⌝ }
+    requires { ⌜ NodeEnds n (now from) (now to) ⌝ }
     requires { ⌜ n ≤ length (now seen) ⌝ }
     ensures { λ r. ⌜ LoopIs n (edgesOf (now (from .entry)) (now (to .entry)) [] []) (nodeOf r) ⌝ }
 {
@@ -64,7 +64,7 @@ pub fn lowest_on_loop(from: &[usize], to: &[usize], n: usize, seen: &mut [u8]) -
 
 // An open edge, sought from start on and then among those before it: a sweep goes on where it stands.
 fn next_open(from: &[usize], to: &[usize], s: usize, seen: &[u8], start: usize) -> Found
-    requires { ⌜ Ends (length (now seen)) (now from) (now to) ⌝ }
+    requires { ⌜ NodeEnds (length (now seen)) (now from) (now to) ⌝ }
     requires { ⌜ start ≤ length (now from) ⌝ }
     ensures { λ r. ⌜ ScanIs (Open (now (from .entry)) (now (to .entry)) s (now (seen .entry))) 0 (length (now (from .entry))) r ⌝ }
 {
@@ -76,7 +76,7 @@ fn next_open(from: &[usize], to: &[usize], s: usize, seen: &[u8], start: usize) 
 
 // An open edge of those from lo to below hi: it would mark its head.
 fn open_between(from: &[usize], to: &[usize], s: usize, seen: &[u8], lo: usize, hi: usize) -> Found
-    requires { ⌜ Ends (length (now seen)) (now from) (now to) ⌝ }
+    requires { ⌜ NodeEnds (length (now seen)) (now from) (now to) ⌝ }
     requires { ⌜ hi ≤ length (now from) ⌝ }
     ensures { λ r. ⌜ ScanIs (Open (now (from .entry)) (now (to .entry)) s (now (seen .entry))) lo hi r ⌝ }
 {

@@ -1,5 +1,5 @@
 // Edges lent as a slice of numbers, four to an edge.
-use crate::lent::blank_edges;
+use crate::edges::Flat;
 use crate::lent::count_copied;
 use graph::Edge;
 use table::limits::MAX_EDGES;
@@ -13,17 +13,28 @@ ghost use Rattle.layering.specs.Lent.{Collected};
 // How many numbers make an edge.
 pub const FIELDS: usize = 4;
 
-// The edges that the numbers write down, in an array.
-pub fn collect_numbers(numbers: &[usize]) -> [Edge; MAX_EDGES]
+// The edges that the numbers write down, field by field.
+pub fn flatten_numbers(numbers: &[usize]) -> Flat
     ensures { λ r. ⌜ Collected (recordsOf (now (numbers .entry))) r ⌝ }
 {
     let end = count_copied(numbers.len() / FIELDS);
-    let mut edges = blank_edges();
+    let mut from = [0usize; MAX_EDGES];
+    let mut to = [0usize; MAX_EDGES];
+    let mut gap = [0usize; MAX_EDGES];
+    let mut weight = [0usize; MAX_EDGES];
     for i in 0..end {
         let e = edge_at(numbers, i);
-        edges[i] = e;
+        from[i] = e.from;
+        to[i] = e.to;
+        gap[i] = e.gap;
+        weight[i] = e.weight;
     }
-    edges
+    Flat {
+        from: from,
+        to: to,
+        gap: gap,
+        weight: weight,
+    }
 }
 
 // Edge i.

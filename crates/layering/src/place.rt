@@ -1,26 +1,26 @@
 // Rows of edges: a loop is refused, and the solver finds the rows of any other edges.
-use crate::edges::flatten_edges;
+use crate::edges::Flat;
 use crate::loops::find_loop;
 use crate::settle::Found;
 use crate::total::total_rows;
 use crate::types::RowsFound;
-use graph::Edge;
+use outcome::Refusal;
+use outcome::Verdict;
 use table::limits::MAX_EDGES;
 use table::limits::MAX_GAP;
 use table::limits::MAX_STEPS;
-use table::types::Refusal;
-use table::types::Verdict;
 ghost use mathlib.Core.Path.{_≡_};
 ghost use Prim.Native.Nat.{_≤_};
-ghost use lib.ListN.{length, take};
-ghost use Rattle.network.specs.Network.{edgesOf, Network, Bounded};
-ghost use Rattle.network.specs.Limits.{rowLimit};
+ghost use lib.ListN.{length};
+ghost use Rattle.relaxation.specs.Network.{edgesOf, Network, Bounded};
+ghost use Rattle.relaxation.specs.Limits.{rowLimit};
 ghost use Rattle.table.specs.Limits.{maxSteps, maxEdges};
-ghost use Rattle.layering.specs.Placed.{FairEdges, Even, Solved, EdgesPlaced};
+ghost use Rattle.layering.specs.Flat.{frontEdges, Full};
+ghost use Rattle.layering.specs.Placed.{FairEdges, Even, SolvedRows, noRows, EdgesPlaced};
 
-// A refusal, with no rows.
+// A refusal, with no rows and no total.
 pub fn refuse_rows(f: Refusal) -> RowsFound
-    ensures { λ r. ⌜ (r .verdict ≡ Verdict.Refused f) × (length (r .rows) ≡ maxSteps) ⌝ }
+    ensures { λ r. ⌜ r ≡ noRows f ⌝ }
 {
     RowsFound {
         verdict: Verdict::Refused(f),
@@ -29,13 +29,12 @@ pub fn refuse_rows(f: Refusal) -> RowsFound
     }
 }
 
-// The rows of the first m edges of an array, between n steps.
-pub fn place_edges(edges: [Edge; MAX_EDGES], m: usize, n: usize) -> RowsFound
-    requires { ⌜ FairEdges n (take m edges) ⌝ }
-    requires { ⌜ (m ≤ maxEdges) × (length edges ≡ maxEdges) ⌝ }
-    ensures { λ r. ⌜ EdgesPlaced n (take m edges) r ⌝ }
+// The rows of the first m edges of flat arrays, between n steps.
+pub fn place_edges(flat: Flat, m: usize, n: usize) -> RowsFound
+    requires { ⌜ FairEdges n (frontEdges m flat) ⌝ }
+    requires { ⌜ (m ≤ maxEdges) × Full flat ⌝ }
+    ensures { λ r. ⌜ EdgesPlaced n (frontEdges m flat) r ⌝ }
 {
-    let flat = flatten_edges(edges, m);
     let from = flat.from;
     let to = flat.to;
     let gap = flat.gap;
@@ -76,7 +75,7 @@ fn solve_rows(
     requires { ⌜ Network (now from) (now to) (now gap) (now weight) n ⌝ }
     requires { ⌜ Bounded (now from) (now to) (now gap) n rowLimit ⌝ }
     requires { ⌜ (n ≤ maxSteps) × (length (now from) ≤ maxEdges) ⌝ }
-    ensures { λ r. ⌜ Solved n (edgesOf (now (from .entry)) (now (to .entry)) (now (gap .entry)) (now (weight .entry))) r ⌝ }
+    ensures { λ r. ⌜ SolvedRows n (edgesOf (now (from .entry)) (now (to .entry)) (now (gap .entry)) (now (weight .entry))) r ⌝ }
 {
     let m = from.len();
     let mut y = [0usize; MAX_STEPS];
@@ -91,6 +90,7 @@ fn solve_rows(
     let mut in_head = [0usize; MAX_STEPS];
     let mut in_next = [0usize; MAX_EDGES];
     let mut queue = [0usize; MAX_STEPS];
+    let mut lowest = [0usize; MAX_STEPS];
     network::solve(
         from,
         to,
@@ -109,6 +109,7 @@ fn solve_rows(
         &mut in_head,
         &mut in_next,
         &mut queue,
+        &mut lowest[..n],
     );
     y
 }

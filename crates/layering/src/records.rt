@@ -1,18 +1,30 @@
 // Edges lent as a slice of records.
-use crate::lent::blank_edges;
+use crate::edges::Flat;
 use crate::lent::count_copied;
 use graph::Edge;
 use table::limits::MAX_EDGES;
 ghost use Rattle.layering.specs.Lent.{Collected};
 
-// The records in an array. Of a slice longer than the limit no record is read.
-pub fn collect_records(records: &[Edge]) -> [Edge; MAX_EDGES]
+// The records, field by field. Of a slice longer than the limit no record is read.
+pub fn flatten_records(records: &[Edge]) -> Flat
     ensures { λ r. ⌜ Collected (now (records .entry)) r ⌝ }
 {
     let end = count_copied(records.len());
-    let mut edges = blank_edges();
+    let mut from = [0usize; MAX_EDGES];
+    let mut to = [0usize; MAX_EDGES];
+    let mut gap = [0usize; MAX_EDGES];
+    let mut weight = [0usize; MAX_EDGES];
     for i in 0..end {
-        edges[i] = records[i];
+        let e = records[i];
+        from[i] = e.from;
+        to[i] = e.to;
+        gap[i] = e.gap;
+        weight[i] = e.weight;
     }
-    edges
+    Flat {
+        from: from,
+        to: to,
+        gap: gap,
+        weight: weight,
+    }
 }

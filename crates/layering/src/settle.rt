@@ -1,9 +1,10 @@
 // Relaxation: rows from 0 up that keep every edge, if they settle below a cap.
+use buffers::clear_all;
 ghost use mathlib.Core.Path.{_≡_};
 ghost use Prim.Native.Nat.{_≤_};
 ghost use lib.ListN.{length};
-ghost use Rattle.layering.specs.Flat.{Ends};
-ghost use Rattle.layering.specs.Scan.{ScanIs, Short, Blank, SettlingIs};
+ghost use Rattle.layering.specs.Flat.{NodeEnds};
+ghost use Rattle.layering.specs.Scan.{ScanIs, Short, SettlingIs};
 
 // The number of a node or of an edge, where there is one.
 pub enum Found {
@@ -25,11 +26,11 @@ pub fn settle_rows(
     cap: usize,
     y: &mut [usize],
 ) -> Settling
-    requires { ⌜ Ends (length (now y)) (now from) (now to) ⌝ }
+    requires { ⌜ NodeEnds (length (now y)) (now from) (now to) ⌝ }
     requires { ⌜ length (now gap) ≡ length (now from) ⌝ }
     ensures { λ r. ⌜ SettlingIs (now (from .entry)) (now (to .entry)) (now (gap .entry)) cap (now (y .exit)) r ⌝ }
 {
-    clear_rows(y);
+    clear_all(y);
     let mut start = 0;
     loop {
         match next_short(from, to, gap, y, start) {
@@ -48,7 +49,7 @@ pub fn settle_rows(
 
 // A short edge, sought from start on and then among those before it.
 fn next_short(from: &[usize], to: &[usize], gap: &[usize], y: &[usize], start: usize) -> Found
-    requires { ⌜ Ends (length (now y)) (now from) (now to) ⌝ }
+    requires { ⌜ NodeEnds (length (now y)) (now from) (now to) ⌝ }
     requires { ⌜ length (now gap) ≡ length (now from) ⌝ }
     requires { ⌜ start ≤ length (now from) ⌝ }
     ensures { λ r. ⌜ ScanIs (Short (now (from .entry)) (now (to .entry)) (now (gap .entry)) (now (y .entry))) 0 (length (now (from .entry))) r ⌝ }
@@ -68,7 +69,7 @@ fn short_between(
     lo: usize,
     hi: usize,
 ) -> Found
-    requires { ⌜ Ends (length (now y)) (now from) (now to) ⌝ }
+    requires { ⌜ NodeEnds (length (now y)) (now from) (now to) ⌝ }
     requires { ⌜ length (now gap) ≡ length (now from) ⌝ }
     requires { ⌜ hi ≤ length (now from) ⌝ }
     ensures { λ r. ⌜ ScanIs (Short (now (from .entry)) (now (to .entry)) (now (gap .entry)) (now (y .entry))) lo hi r ⌝ }
@@ -84,13 +85,4 @@ fn short_between(
         }
     }
     Found::Nothing
-}
-
-// Every row set to 0.
-fn clear_rows(y: &mut [usize])
-    ensures { λ _. ⌜ Blank (now (y .exit)) ⌝ }
-{
-    for v in 0..y.len() {
-        y[v] = 0;
-    }
 }

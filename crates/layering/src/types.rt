@@ -1,8 +1,8 @@
 // What the row finder gives: rows, their total, or why there are none.
+use outcome::Refusal;
+use outcome::Verdict;
 use table::limits::MAX_STEPS;
-use table::types::Refusal;
 use table::types::Table;
-use table::types::Verdict;
 
 // A row in a buffer that is lent.
 pub type Row = u8;

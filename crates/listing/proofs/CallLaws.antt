@@ -1,26 +1,26 @@
 -- The outcome of the call by cases: the line of a refusal, a buffer that is short, and one that is not.
 use mathlib.Core.Path.{_≡_, refl, sym, ap, _∙_, subst}
 use mathlib.Core.Bool.{Bool, true, false, cond}
-use mathlib.Core.List.{List, _++_}
+use mathlib.Core.List.{List, [], _∷_, _++_}
 use Prim.Native.Nat.{ℕ, _+_, _≤_, _<_}
 use native.Mathlib.Omega.{arith}
 use borrow.Author.Tests.{le-leb, lt-leb, leb-true}
 use lib.Dec.{leb}
-use lib.ListN.{length, take, drop}
-use Rattle.table.specs.declared.types.Refusal.{Refusal}
-use Rattle.table.specs.declared.types.Verdict.the-variants.{Refused}
-use Rattle.table.specs.Refusal.{Outcome, done, refused}
+use lib.ListN.{length, getD, take, drop}
+use Rattle.outcome.specs.declared.Refusal.{Refusal}
+use Rattle.outcome.specs.declared.Refusal.the-variants.{ShortBuffer}
+use Rattle.outcome.specs.declared.Verdict.the-variants.{Refused}
+use Rattle.outcome.specs.Refusal.{Outcome, done, refused, numberOf, refusalIn}
 use Rattle.layering.specs.Placed.{outcomeBy}
 use Rattle.ordering.specs.declared.types.ChartFound.{ChartFound}
 use Rattle.ordering.specs.Calls.{Placing, Charted, chartOfTable, chartOut}
 use Rattle.ordering.specs.Charting.{chartedBy, TableFound}
-use Rattle.ordering.specs.Laying.{Stored}
-use Rattle.ordering.proofs.WriteLaws.{written-is}
-use Rattle.listing.specs.declared.ListingAnswer.{ListingAnswer}
+use Rattle.buffers.specs.Written.{Stored}
+use Rattle.buffers.proofs.WriteLaws.{written-is}
 use Rattle.listing.specs.declared.ListingAnswer.the-variants.{Written, Short}
 use Rattle.listing.specs.Listing.{refusalText, outcomeText, listing}
 use Rattle.listing.specs.Widths.{maxListing}
-use Rattle.listing.specs.Calls.{ListingEnd, listingCall}
+use Rattle.listing.specs.Calls.{ListingEnd, listingCall, listingNumbers}
 use Rattle.listing.proofs.WidthLaws.{listing-short}
 use Rattle.listing.proofs.PageLaws.{stored-front}
 
@@ -60,14 +60,14 @@ module _ (bytes old page page₁ : List ℕ) (len : ℕ) (wide : maxListing ≤ 
   pub page-room : len ≤ length old → 0 + length (take len page₁) ≤ length old
   page-room h = omega (arith, ap length (page-front .1), len-is)
 
-  pub call-short : length old < len → (Short len ≡ listingCall bytes old .answer) × (old ≡ listingCall bytes old .out)
+  pub call-short : length old < len → (listingNumbers (Short len) ≡ listingCall bytes old .numbers) × (old ≡ listingCall bytes old .out)
   unfolding listingCall
   call-short h =
       let b = lt-leb (length (listing bytes)) (length old) (omega (arith, len-is)) in
       (rw (b, len-is), rw b)
 
   pub call-written : (new : List ℕ) (p : ℕ) → len ≤ length old → Stored old 0 (take len page₁) new p
-      → (Written len ≡ listingCall bytes old .answer) × (new ≡ listingCall bytes old .out)
+      → (listingNumbers (Written len) ≡ listingCall bytes old .numbers) × (new ≡ listingCall bytes old .out)
   unfolding listingCall
   call-written new p h t =
       let b = le-leb (length (listing bytes)) (length old) (omega (arith, len-is)) in
@@ -77,21 +77,18 @@ module _ (bytes old page page₁ : List ℕ) (len : ℕ) (wide : maxListing ≤ 
 -- ---- for a layer above
 
 -- what is written lies in the buffer
-pub call-fits : (bytes old : List ℕ) {len : ℕ} → Written len ≡ listingCall bytes old .answer → len ≤ length old
+pub call-fits : (bytes old : List ℕ) {len : ℕ} → listingNumbers (Written len) ≡ listingCall bytes old .numbers → len ≤ length old
 unfolding listingCall
 call-fits bytes old {len} e = go (leb (length (listing bytes)) (length old)) refl e
   where
-    count : ListingAnswer → ℕ
-    count (Written k) = k
-    count (Short k) = 0
-
     go : (b : Bool) → leb (length (listing bytes)) (length old) ≡ b
-        → Written len ≡ cond {A = ListingEnd} b (record { answer = Written (length (listing bytes)); out = listing bytes ++ drop (length (listing bytes)) old })
-        (record { answer = Short (length (listing bytes)); out = old }) .answer → len ≤ length old
-    go true t e = omega (arith, ap count e, leb-true (length (listing bytes)) (length old) t)
-    go false t e = let z : _≡_ {A = ℕ} 0 1 = cc in absurd (omega arith)
+        → 0 ∷ len ∷ [] ≡ cond {A = ListingEnd} b
+        (record { numbers = 0 ∷ length (listing bytes) ∷ []; out = listing bytes ++ drop (length (listing bytes)) old })
+        (record { numbers = numberOf ShortBuffer ∷ length (listing bytes) ∷ []; out = old }) .numbers → len ≤ length old
+    go true t e = omega (arith, ap (λ l. getD l 1 0) e, leb-true (length (listing bytes)) (length old) t)
+    go false t e = absurd (omega (arith, ap refusalIn e))
 
 -- and a buffer with room for any listing is never short
-pub call-whole : (bytes old : List ℕ) → maxListing ≤ length old → listingCall bytes old .answer ≡ Written (length (listing bytes))
+pub call-whole : (bytes old : List ℕ) → maxListing ≤ length old → listingCall bytes old .numbers ≡ 0 ∷ length (listing bytes) ∷ []
 unfolding listingCall
 call-whole bytes old h = rw (le-leb (length (listing bytes)) (length old) (omega (arith, listing-short bytes)))

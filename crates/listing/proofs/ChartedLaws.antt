@@ -2,28 +2,29 @@
 use mathlib.Core.Path.{_≡_, refl, sym, ap, _∙_, subst}
 use mathlib.Core.Bool.{Bool, true, false}
 use mathlib.Core.List.{List, flatten}
-use Prim.Native.Nat.{ℕ, _-_, _≤_}
+use Prim.Native.Nat.{ℕ, _≤_}
 use native.Mathlib.Omega.{arith}
 use borrow.Author.Tests.{leb-true}
 use lib.Dec.{leb}
-use lib.ListN.{length, take, length-append, length-replicate}
-use lib.Seq.{take-append-seam, length-take-le}
-use Rattle.graph.specs.Rows.{at, noEdge, total, Best}
-use Rattle.table.specs.declared.types.Refusal.{Refusal}
-use Rattle.table.specs.declared.types.Refusal.the-variants.{ManyPoints}
+use lib.ListN.{length, take}
+use lib.Seq.{length-take-le}
+use Rattle.graph.specs.Rows.{at, total, Best}
+use Rattle.outcome.specs.declared.Refusal.{Refusal}
+use Rattle.outcome.specs.declared.Refusal.the-variants.{ManyPoints}
 use Rattle.table.specs.declared.types.Table.{Table}
-use Rattle.table.specs.declared.types.Verdict.the-variants.{Accepted}
+use Rattle.outcome.specs.declared.Verdict.the-variants.{Accepted}
 use Rattle.table.specs.Limits.{maxSteps, maxEdges, maxPoints}
-use Rattle.table.specs.Refusal.{Outcome, done, refused, thenDo, demand}
-use Rattle.table.specs.Table.{Contents, read}
-use Rattle.table.specs.Calls.{noStep, padded, tableRead}
-use Rattle.table.proofs.FairLaws.{read-fair}
+use Rattle.outcome.specs.Refusal.{Outcome, done, refused, thenDo, demand}
+use Rattle.table.specs.Table.{Contents, contentsOf, read}
+use Rattle.table.specs.Calls.{noStep, readCall}
+use Rattle.buffers.specs.Padded.{padded}
+use Rattle.table.proofs.ArrayLaws.{array-steps, array-list, array-count, array-edges, array-long}
 use Rattle.layering.specs.Calls.{rowsFound}
-use Rattle.layering.specs.Placed.{outcomeBy, contentsOf}
+use Rattle.layering.specs.Placed.{outcomeBy}
 use Rattle.ordering.specs.declared.Figures.{Figures}
 use Rattle.ordering.specs.declared.types.ChartFound.{ChartFound}
-use Rattle.ordering.specs.Points.{rowCount}
-use Rattle.ordering.specs.Crossings.{drawingOf}
+use Rattle.points.specs.Points.{rowCount}
+use Rattle.ordering.specs.Fewest.{drawingOf}
 use Rattle.ordering.specs.Calls.{Placing, pointCount, unlessMany, chartOfTable, Charted, charted, chartOut}
 use Rattle.ordering.specs.Charting.{chartedBy, TableFound}
 
@@ -92,7 +93,7 @@ module _ (bytes : List ℕ) (c : Charted) where
 
 -- ---- the arrays and numbers
 
-module _ (bytes : List ℕ) (table : Table) (f : ChartFound) (same : table ≡ tableRead (read bytes) .table) (h : TableFound bytes f)
+module _ (bytes : List ℕ) (table : Table) (f : ChartFound) (same : table ≡ readCall bytes .table) (h : TableFound bytes f)
     (a : f .verdict ≡ Accepted) where
   found : Found bytes (chartedBy f)
   found = found-of bytes (chartedBy f) (sym (ap (λ u. outcomeBy u (chartedBy f)) a) ∙ h .says)
@@ -102,25 +103,6 @@ module _ (bytes : List ℕ) (table : Table) (f : ChartFound) (same : table ≡ t
 
   abbrev ys : List ℕ
   ys = found .placing .rows
-
-  whole : table ≡ tableRead (done t) .table
-  whole = same ∙ ap (λ o. tableRead o .table) (found .said)
-
-  edge-list : table .edges ≡ padded maxEdges noEdge (t .edges)
-  edge-list = ap (λ (x : Table). x .edges) whole
-
-  edge-count : table .m ≡ length (t .edges)
-  edge-count = ap (λ (x : Table). x .m) whole
-
-  edges-taken : take (table .m) (table .edges) ≡ t .edges
-  unfolding padded
-  edges-taken = ap (λ k. take k (table .edges)) edge-count ∙ ap (take (length (t .edges))) edge-list ∙ take-append-seam (t .edges) _
-
-  array-long : length (table .edges) ≡ maxEdges
-  unfolding padded
-  array-long =
-      ap length edge-list ∙ length-append (t .edges) _
-      ∙ rw (length-replicate (maxEdges - length (t .edges)) noEdge) (omega (arith, read-fair bytes (found .said) .few-edges))
 
   rows-taken : take (f .n) (f .rows) ≡ ys
   rows-taken = ap (λ (c : Charted). c .rows) (found .holds)
@@ -145,12 +127,12 @@ module _ (bytes : List ℕ) (table : Table) (f : ChartFound) (same : table ≡ t
         placing = found .placing;
         is = found .is;
         said = found .said;
-        n-is = ap (λ (x : Table). x .n) whole;
-        f-n = node-count ∙ sym (ap (λ (x : Table). x .n) whole);
-        steps-are = ap (λ (x : Table). x .steps) whole;
-        m-is = edge-count;
-        edges-are = edges-taken;
-        edges-long = array-long;
+        n-is = array-steps bytes table same t (found .said);
+        f-n = node-count ∙ sym (array-steps bytes table same t (found .said));
+        steps-are = array-list bytes table same t (found .said);
+        m-is = array-count bytes table same t (found .said);
+        edges-are = array-edges bytes table same t (found .said);
+        edges-long = array-long bytes table same t (found .said);
         rows-are = rows-taken;
         best = rows-best;
         height-is = h .tall a ∙ ap rowCount rows-taken;

@@ -9,9 +9,9 @@ use lib.Seq.{drop-cons, getD-take, length-take-le}
 use Rattle.graph.specs.declared.Edge.{Edge}
 use Rattle.graph.specs.Rows.{at, noEdge}
 use Rattle.graph.specs.Search.{run}
-use Rattle.ordering.specs.Points.{Dummy, dummies}
-use Rattle.ordering.proofs.EdgeLaws.{run-length}
-use Rattle.listing.specs.Printing.{ownersOf, rowsOf}
+use Rattle.points.specs.Points.{Dummy, dummies}
+use Rattle.buffers.proofs.RunLaws.{run-length}
+use Rattle.listing.specs.Printing.{ownersOf, dummyRows}
 
 map-append : {A B : Type 0} (f : A → B) (xs ys : List A) → map f (xs ++ ys) ≡ map f xs ++ map f ys
 map-append f [] ys = refl
@@ -55,10 +55,10 @@ module _ (ys : List ℕ) (edges : List Edge) (m i : ℕ) where
         ap ownersOf lay-turn ∙ map-append (λ (d : Dummy). d .edge) (map (λ r. record { edge = i; row = r }) rowsBetween) later
         ∙ ap (_++ ownersOf later) (map-map (λ (d : Dummy). d .edge) (λ r. record { edge = i; row = r }) rowsBetween)
 
-    pub rows-turn : rowsOf still ≡ rowsBetween ++ rowsOf later
+    pub rows-turn : dummyRows still ≡ rowsBetween ++ dummyRows later
     rows-turn =
-        ap rowsOf lay-turn ∙ map-append (λ (d : Dummy). d .row) (map (λ r. record { edge = i; row = r }) rowsBetween) later
-        ∙ ap (_++ rowsOf later) (map-map (λ (d : Dummy). d .row) (λ r. record { edge = i; row = r }) rowsBetween ∙ map-same rowsBetween)
+        ap dummyRows lay-turn ∙ map-append (λ (d : Dummy). d .row) (map (λ r. record { edge = i; row = r }) rowsBetween) later
+        ∙ ap (_++ dummyRows later) (map-map (λ (d : Dummy). d .row) (λ r. record { edge = i; row = r }) rowsBetween ∙ map-same rowsBetween)
 
   pub lay-end : m ≤ length edges → m ≤ i → still ≡ []
   unfolding dummies

@@ -1,6 +1,5 @@
 -- Laws by subject. A layer above wants CallLaws, WidthLaws and PrintedLaws.
 pub mod DecimalLaws
-pub mod HeightLaws
 pub mod WidthLaws
 pub mod RowLineLaws
 pub mod PrintLaws

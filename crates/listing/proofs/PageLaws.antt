@@ -12,17 +12,19 @@ use Rattle.table.specs.declared.types.Step.{Step}
 use Rattle.table.specs.declared.types.Table.{Table}
 use Rattle.table.specs.Limits.{maxSteps, maxPoints}
 use Rattle.table.specs.Fair.{Fair}
-use Rattle.table.specs.Calls.{noStep, padded}
+use Rattle.table.specs.Calls.{noStep}
+use Rattle.buffers.specs.Padded.{padded}
+use Rattle.buffers.proofs.PaddedLaws.{padded-long}
 use Rattle.table.proofs.FairLaws.{read-fair}
 use Rattle.ordering.specs.declared.types.ChartFound.{ChartFound}
-use Rattle.ordering.specs.Points.{Dummy, dummies, pointRows, rowCount}
-use Rattle.ordering.specs.Crossings.{drawingOf}
-use Rattle.ordering.specs.Laying.{Stored}
-use Rattle.ordering.proofs.WriteLaws.{stored-append, stored-long, written-take}
+use Rattle.points.specs.Points.{Dummy, dummies, pointRows, rowCount}
+use Rattle.ordering.specs.Fewest.{drawingOf}
+use Rattle.buffers.specs.Written.{Stored}
+use Rattle.buffers.proofs.WriteLaws.{stored-append, stored-long, written-take}
 use Rattle.ordering.proofs.CompleteLaws.{drawing-count, drawing-points}
 use Rattle.listing.specs.Listing.{headText, pointText, rowLines, chartText, listing}
 use Rattle.listing.specs.Widths.{maxListing}
-use Rattle.listing.specs.Printing.{labelText, linesFrom, ownersOf, rowsOf, Layable, Sheet}
+use Rattle.listing.specs.Printing.{labelText, linesFrom, ownersOf, dummyRows, Layable, Sheet}
 use Rattle.listing.proofs.RowLineLaws.{drawing-lines, rows-cong, getD-padded, label-is}
 use Rattle.listing.proofs.ChartedLaws.{Opened}
 use Rattle.listing.proofs.PutLaws.{room-first, room-then}
@@ -32,16 +34,12 @@ use Rattle.listing.proofs.WidthLaws.{listing-short}
 point-count : (ys : List ℕ) (edges : List Edge) → length (pointRows ys edges) ≡ length ys + length (dummies ys 0 edges)
 unfolding pointRows
 point-count ys edges =
-    length-append ys (rowsOf (dummies ys 0 edges)) ∙ ap (λ k. length ys + k) (length-map (dummies ys 0 edges) (λ (d : Dummy). d .row))
-
-padded-long : {A : Type 0} (k : ℕ) (d : A) (l : List A) → length l ≤ k → length (padded k d l) ≡ k
-unfolding padded
-padded-long k d l h = length-append l _ ∙ rw (length-replicate (k - length l) d) (omega arith)
+    length-append ys (dummyRows (dummies ys 0 edges)) ∙ ap (λ k. length ys + k) (length-map (dummies ys 0 edges) (λ (d : Dummy). d .row))
 
 -- the lines of the rows, with steps in an array
 lines-of : (bytes : List ℕ) (steps array : List Step) (ys : List ℕ) (edges : List Edge)
     → array ≡ padded maxSteps noStep steps → length ys ≡ length steps
-    → linesFrom (labelText bytes array (length ys) (ownersOf (dummies ys 0 edges))) (ys ++ rowsOf (dummies ys 0 edges)) 0 (rowCount ys)
+    → linesFrom (labelText bytes array (length ys) (ownersOf (dummies ys 0 edges))) (ys ++ dummyRows (dummies ys 0 edges)) 0 (rowCount ys)
     (flatten (drawingOf ys edges .order)) ≡ rowLines (pointText bytes steps (dummies ys 0 edges)) 0 (drawingOf ys edges .order)
 unfolding pointRows
 lines-of bytes steps array ys edges e n =
@@ -86,7 +84,7 @@ module _ (bytes : List ℕ) (table : Table) (f : ChartFound) (o : Opened bytes t
         rows-room = omega (arith, points-of, o .few-points);
       }
 
-  module _ (owners rows : List ℕ) (eo : owners ≡ ownersOf (dummies ys 0 edges)) (er : rows ≡ rowsOf (dummies ys 0 edges)) where
+  module _ (owners rows : List ℕ) (eo : owners ≡ ownersOf (dummies ys 0 edges)) (er : rows ≡ dummyRows (dummies ys 0 edges)) where
     points-in : length ys + length rows ≡ length (pointRows (o .placing .rows) (o .placing .contents .edges))
     points-in = rw (er, length-map (dummies ys 0 edges) (λ (d : Dummy). d .row)) (sym points-of ∙ o .points-are)
 

@@ -12,8 +12,8 @@ use lib.Seq.{drop-cons, drop-drop, getD-append-add}
 use Rattle.graph.specs.Rows.{at}
 use Rattle.table.specs.declared.types.Step.{Step}
 use Rattle.table.specs.Calls.{noStep}
-use Rattle.ordering.specs.Laying.{Stored}
-use Rattle.ordering.proofs.WriteLaws.{Writing, writing-start, writing-part, writing-room}
+use Rattle.buffers.specs.Written.{Stored}
+use Rattle.buffers.proofs.WriteLaws.{Writing, writing-start, writing-part, writing-room}
 use Rattle.listing.specs.Text.{blank, newline, decimal}
 use Rattle.listing.specs.Listing.{blanked, stepText, dummyText}
 use Rattle.listing.specs.Printing.{labelText, Labelled, Sheet, leading, behind, fieldsIn, lineIn, linesFrom}

@@ -5,7 +5,7 @@ use Prim.Native.Nat.{ℕ, _<_}
 use native.Mathlib.Omega.{arith}
 use lib.Seq.{take-all}
 use Rattle.table.specs.Limits.{maxTable, maxInput}
-use Rattle.table.specs.Refusal.{Outcome, done, refused}
+use Rattle.outcome.specs.Refusal.{Outcome, done, refused}
 use Rattle.table.specs.Table.{Contents, read}
 use Rattle.table.proofs.PrefixLaws.{read-short, read-prefix}
 use Rattle.ordering.specs.Calls.{chartOfTable}

@@ -5,8 +5,8 @@ use Prim.Native.Nat.{ℕ, _+_, _-_, _/_, _%_, _≤_, _<_}
 use native.Mathlib.Omega.{arith}
 use lib.ListN.{length, take, drop, length-append}
 use Rattle.graph.specs.Rows.{at}
-use Rattle.ordering.specs.Laying.{Stored}
-use Rattle.ordering.proofs.WriteLaws.{stored-append, stored-long, drop-turn, drop-end}
+use Rattle.buffers.specs.Written.{Stored}
+use Rattle.buffers.proofs.WriteLaws.{stored-append, stored-long, drop-turn, drop-end}
 use Rattle.listing.specs.Text.{blank, digit, decimal}
 use Rattle.listing.specs.Listing.{blanked}
 use Rattle.listing.proofs.DecimalLaws.{decimal-one, decimal-more}

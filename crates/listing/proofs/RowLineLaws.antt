@@ -13,11 +13,12 @@ use Rattle.graph.specs.declared.Edge.{Edge}
 use Rattle.graph.specs.Rows.{at}
 use Rattle.table.specs.declared.types.Step.{Step}
 use Rattle.table.specs.Limits.{maxSteps}
-use Rattle.table.specs.Calls.{noStep, padded}
-use Rattle.ordering.specs.Points.{Dummy, pointRows, rowCount}
-use Rattle.ordering.specs.Crossings.{drawingOf}
-use Rattle.ordering.specs.Reordered.{occurs}
-use Rattle.ordering.proofs.OccursLaws.{at-occurs}
+use Rattle.table.specs.Calls.{noStep}
+use Rattle.buffers.specs.Padded.{padded}
+use Rattle.points.specs.Points.{Dummy, pointRows, rowCount}
+use Rattle.ordering.specs.Fewest.{drawingOf}
+use Rattle.buffers.specs.Lists.{occurs}
+use Rattle.buffers.proofs.OccursLaws.{at-occurs}
 use Rattle.ordering.proofs.CompleteLaws.{drawing-rows, drawing-once, drawing-none}
 use Rattle.listing.specs.Text.{decimal}
 use Rattle.listing.specs.Listing.{line, stepText, dummyText, noDummy, pointText, rowLines}

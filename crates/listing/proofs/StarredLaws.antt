@@ -8,16 +8,20 @@ use Rattle.table.specs.Table.{adjustAt, waitAt, kindAt, nameByteAt, nameAt, nam
 use Rattle.table.specs.Starred.{Case}
 use Rattle.layering.specs.Loops.{mark, sweep, sweeps, reached, onLoop, firstFrom, lowestOnLoop}
 use Rattle.layering.specs.Calls.{rowsFound}
-use Rattle.ordering.specs.Points.{dummies, pointRows, chain, segmentsFrom, segments, rowCount}
-use Rattle.ordering.specs.Means.{sum, meanOf, insert, sortOnto, moving, fill, reorder}
-use Rattle.ordering.specs.Order.{pointsIn, startOrder, position, place, ends, settleRow, downFrom, upFrom, results}
-use Rattle.ordering.specs.Crossings.{crossingsWith, crossingPairs, crossings, drawn, fewest, bestOrder, drawingOf}
+use Rattle.points.specs.Points.{dummies, pointRows, chain, segmentsFrom, segments, rowCount}
+use Rattle.points.specs.Positions.{position, place}
+use Rattle.buffers.specs.Lists.{sum}
+use Rattle.barycentre.specs.Means.{meanOf, insert, sortOnto, moving, fill, reorder}
+use Rattle.ordering.specs.Order.{pointsIn, startOrder, settleRow, downFrom, upFrom, results}
+use Rattle.barycentre.specs.PointEnds.{ends}
+use Rattle.crossings.specs.Crossings.{crossingsWith, crossingPairs, crossings}
+use Rattle.ordering.specs.Fewest.{drawn, fewest, bestOrder, drawingOf}
 use Rattle.ordering.specs.Calls.{chartOfTable}
 use Rattle.listing.specs.Text.{digits}
 use Rattle.listing.specs.Listing.{blanked, rowLines, chartText, listing}
-use Rattle.listing.specs.Starred.{starred}
+use Rattle.listing.specs.Starred.{starredListings}
 
 -- each case prints what it says
-pub starred-hold : map (λ (c : Case). listing (c .input)) starred ≡ map (λ (c : Case). c .told) starred
+pub starred-listings : map (λ (c : Case). listing (c .input)) starredListings ≡ map (λ (c : Case). c .expected) starredListings
 unfolding total run keepsOne keeps sieve extend placements lightest firstLightest widest rowsOf byteAt numberAt numberIn many adjustAt waitAt kindAt nameByteAt nameAt namedAt stepAt endAt edgeBetween edgeAt stepsAt edgesAt listsAt tableAt read mark sweep sweeps reached onLoop firstFrom lowestOnLoop rowsFound dummies pointRows chain segmentsFrom segments rowCount sum meanOf insert sortOnto moving fill reorder pointsIn startOrder position place ends settleRow downFrom upFrom results crossingsWith crossingPairs crossings drawn fewest bestOrder drawingOf chartOfTable digits blanked rowLines chartText listing
-starred-hold = refl
+starred-listings = refl

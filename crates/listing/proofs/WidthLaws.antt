@@ -14,23 +14,24 @@ use Rattle.graph.specs.Rows.{at, noEdge, total, Within}
 use Rattle.graph.specs.Search.{run, rowsOf}
 use Rattle.table.specs.declared.types.Kind.{Kind}
 use Rattle.table.specs.declared.types.Kind.the-variants.{Check, Adjust, Wait}
-use Rattle.table.specs.declared.types.Refusal.{Refusal}
-use Rattle.table.specs.declared.types.Refusal.the-variants.{Cut, Overlong, BadEdition, ManySteps, BadKind, OutOfRange, BadNameByte, ManyEdges, BadEnd, Spare, Loop, ManyPoints, ShortBuffer, NoStep}
+use Rattle.outcome.specs.declared.Refusal.{Refusal}
+use Rattle.outcome.specs.declared.Refusal.the-variants.{Cut, Overlong, BadEdition, ManySteps, BadKind, OutOfRange, BadNameByte, ManyEdges, BadEnd, Spare, Loop, ManyPoints, ShortBuffer, NoStep}
 use Rattle.table.specs.declared.types.Step.{Step}
 use Rattle.table.specs.Limits.{maxSteps, maxEdges, maxWeight, maxPoints}
-use Rattle.table.specs.Refusal.{Outcome, done, refused, thenDo, demand, numbersOf}
+use Rattle.outcome.specs.Refusal.{Outcome, done, refused, thenDo, demand, numbersOf}
 use Rattle.table.specs.Table.{Contents, read}
 use Rattle.table.specs.Calls.{noStep}
-use Rattle.table.specs.Fair.{KindLow, FairStep, Fair}
+use Rattle.table.specs.Fair.{KindInRange, FairStep, Fair}
 use Rattle.table.proofs.FairLaws.{read-fair}
 use Rattle.table.proofs.RangeLaws.{read-range}
-use Rattle.table.proofs.CallLaws.{alone}
+use Rattle.outcome.proofs.ToldLaws.{alone}
 use Rattle.layering.specs.Loops.{lowestOnLoop}
 use Rattle.layering.specs.Calls.{unlessLoop, rowsFound}
 use Rattle.layering.specs.Placed.{topRow}
-use Rattle.layering.proofs.LoopLaws.{lowest-iff}
-use Rattle.ordering.specs.Points.{Dummy, between, dummies, rowCount}
-use Rattle.ordering.specs.Crossings.{Drawing, drawingOf}
+use Rattle.layering.proofs.StepLaws.{StepLow, never}
+use Rattle.ordering.proofs.StepLaws.{chart-of-step}
+use Rattle.points.specs.Points.{Dummy, between, dummies, rowCount}
+use Rattle.ordering.specs.Fewest.{Drawing, drawingOf}
 use Rattle.ordering.specs.Calls.{Placing, pointCount, unlessMany, chartOfTable}
 use Rattle.ordering.proofs.CompleteLaws.{drawing-rows, drawing-count}
 use Rattle.ordering.proofs.FigureLaws.{crossings-low, total-low}
@@ -38,7 +39,8 @@ use Rattle.listing.specs.Text.{text, newline, decimal}
 use Rattle.listing.specs.Listing.{blanked, line, kindText, stepText, dummyText, noDummy, pointText, headText, rowLines, chartText, refusalText, outcomeText, listing}
 use Rattle.listing.specs.Widths.{headBytes, rowBytes, pointBytes, maxListing}
 use Rattle.listing.proofs.DecimalLaws.{tens, decimal-short}
-use Rattle.listing.proofs.HeightLaws.{found-low, count-low}
+use Rattle.layering.proofs.HeightLaws.{found-low}
+use Rattle.points.proofs.RowCountLaws.{count-low}
 
 -- ---- lines
 
@@ -70,7 +72,7 @@ rows-short w show h r (row ∷ rows) l =
 -- ---- points
 
 -- a letter, and a number of at most four digits
-kind-short : (k : Kind) → KindLow k → length (kindText k) ≤ 5
+kind-short : (k : Kind) → KindInRange k → length (kindText k) ≤ 5
 kind-short Check h = omega arith
 kind-short (Adjust t) h = omega (arith, decimal-short 3 t (omega arith))
 kind-short (Wait m) h = omega (arith, decimal-short 3 m (omega arith))
@@ -79,7 +81,7 @@ step-short : (bytes : List ℕ) (s : Step) → FairStep bytes s → length (step
 step-short bytes s h =
     let name = take (s .len) (drop (s .start) bytes) in
     rw (length-append (name ++ text "=") (kindText (s .kind)), length-append name (text "="))
-    (omega (arith, length-take (s .len) (drop (s .start) bytes), h .short, kind-short (s .kind) (h .kind-low)))
+    (omega (arith, length-take (s .len) (drop (s .start) bytes), h .short, kind-short (s .kind) (h .kind-in)))
 
 -- dummies of edges up to number k
 record Numbered (k : ℕ) (ds : List Dummy) : Type 0 where
@@ -183,10 +185,6 @@ module _ (bytes : List ℕ) (p : Placing) (h : Drawable bytes p) where
 
 -- ---- a refusal
 
--- the step that comes with a loop is low; any other refusal comes with none
-abbrev StepLow : Refusal → Type 0
-StepLow r = getD (numbersOf r) 1 0 < maxSteps
-
 one-short : (x : ℕ) → x < tens 2 → length (line (text "refused") (decimal x ∷ [])) ≤ maxListing
 unfolding blanked
 one-short x h = simp length-append (omega (arith, decimal-short 1 x h))
@@ -209,12 +207,6 @@ refusal-short ShortBuffer h = one-short 13 (omega arith)
 refusal-short NoStep h = one-short 14 (omega arith)
 
 -- ---- the outcomes of a table
-
-never : {X A : Type 0} {a : A} {r : Refusal} → done a ≡ refused r → X
-never e = let z : _≡_ {A = ℕ} 0 1 = cc in absurd (omega arith)
-
-same : {A : Type 0} {r s : Refusal} → _≡_ {A = Outcome A} (refused r) (refused s) → r ≡ s
-same e = cc
 
 module _ (bytes : List ℕ) where
   drawable : {p : Placing} → chartOfTable bytes ≡ done p → Drawable bytes p
@@ -244,39 +236,6 @@ module _ (bytes : List ℕ) where
       go (done t) r e = found t (rowsFound (length (t .steps)) (t .edges)) r refl e
       go (refused g) r e = never (sym e)
 
-  -- the step on a loop is one of the table's
-  loop-low : (t : Contents) {f : Refusal} → read bytes ≡ done t → rowsFound (length (t .steps)) (t .edges) ≡ refused f → StepLow f
-  unfolding rowsFound
-  loop-low t {f} r e = go (lowestOnLoop (length (t .steps)) (t .edges)) refl e
-    where
-      within : Within (length (t .steps)) (t .edges)
-      within i b = (read-fair bytes r .each-edge i b .from-in, read-fair bytes r .each-edge i b .to-in)
-
-      go : (o : Option ℕ) → lowestOnLoop (length (t .steps)) (t .edges) ≡ o → unlessLoop o (rowsOf (length (t .steps)) (t .edges)) ≡ refused f
-          → StepLow f
-      go none l e = never e
-      go (some s) l e =
-          subst StepLow (same e)
-          (omega (arith, lowest-iff (length (t .steps)) (t .edges) within s .1 l .inside, read-fair bytes r .few-steps))
-
-  step-low : {f : Refusal} → chartOfTable bytes ≡ refused f → StepLow f
-  unfolding chartOfTable
-  step-low {f} e = go (read bytes) refl e
-    where
-      many : (t : Contents) (ys : List ℕ) (b : Bool) → demand {A = Placing} b ManyPoints (done (record { contents = t; rows = ys })) ≡ refused f → StepLow f
-      many t ys true e = never e
-      many t ys false e = subst StepLow (same e) (omega arith)
-
-      found : (t : Contents) (o : Outcome (List ℕ)) → read bytes ≡ done t → rowsFound (length (t .steps)) (t .edges) ≡ o
-          → thenDo o (λ ys. unlessMany t ys) ≡ refused f → StepLow f
-      found t (done ys) r g e = many t ys (leb (pointCount ys (t .edges)) maxPoints) e
-      found t (refused g) r h e = subst StepLow (same e) (loop-low t r h)
-
-      go : (o : Outcome Contents) → read bytes ≡ o
-          → thenDo o (λ t. thenDo (rowsFound (length (t .steps)) (t .edges)) (λ ys. unlessMany t ys)) ≡ refused f → StepLow f
-      go (done t) r e = found t (rowsFound (length (t .steps)) (t .edges)) r refl e
-      go (refused g) r e = subst StepLow (same e) (omega (arith, alone g (λ k. omega (arith, read-range bytes r))))
-
 -- ---- the listing
 
 pub listing-short : (bytes : List ℕ) → length (listing bytes) ≤ maxListing
@@ -285,4 +244,4 @@ listing-short bytes = go (chartOfTable bytes) refl
   where
     go : (o : Outcome Placing) → chartOfTable bytes ≡ o → length (outcomeText bytes o) ≤ maxListing
     go (done p) e = chart-short bytes p (drawable bytes e)
-    go (refused r) e = refusal-short r (step-low bytes e)
+    go (refused r) e = refusal-short r (chart-of-step bytes e)

@@ -7,12 +7,12 @@ use lib.ListN.{length, getD, take, drop}
 use Rattle.graph.specs.Rows.{at, total}
 use Rattle.table.specs.declared.types.Kind.{Kind}
 use Rattle.table.specs.declared.types.Kind.the-variants.{Check, Adjust, Wait}
-use Rattle.table.specs.declared.types.Refusal.{Refusal}
+use Rattle.outcome.specs.declared.Refusal.{Refusal}
 use Rattle.table.specs.declared.types.Step.{Step}
 use Rattle.table.specs.Calls.{noStep}
-use Rattle.table.specs.Refusal.{Outcome, done, refused, numbersOf}
-use Rattle.ordering.specs.Points.{Dummy, dummies, rowCount}
-use Rattle.ordering.specs.Crossings.{drawingOf}
+use Rattle.outcome.specs.Refusal.{Outcome, done, refused, numbersOf}
+use Rattle.points.specs.Points.{Dummy, dummies, rowCount}
+use Rattle.ordering.specs.Fewest.{drawingOf}
 use Rattle.ordering.specs.Calls.{Placing, chartOfTable}
 use Rattle.listing.specs.Text.{text, blank, newline, decimal}
 

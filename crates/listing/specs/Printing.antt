@@ -10,8 +10,8 @@ use Rattle.graph.specs.Rows.{at, noEdge}
 use Rattle.table.specs.declared.types.Step.{Step}
 use Rattle.table.specs.Limits.{maxSteps, maxEdges}
 use Rattle.table.specs.Calls.{noStep}
-use Rattle.ordering.specs.Points.{Dummy, dummies}
-use Rattle.ordering.specs.Flat.{Below}
+use Rattle.points.specs.Points.{Dummy, dummies}
+use Rattle.buffers.specs.Lists.{Below}
 use Rattle.listing.specs.Text.{decimal}
 use Rattle.listing.specs.Listing.{blanked, line, stepText, dummyText}
 
@@ -45,8 +45,8 @@ linesFrom show ys r (suc k) ps = lineIn show ys r ps ++ linesFrom show ys (suc r
 abbrev pub ownersOf : List Dummy → List ℕ
 ownersOf ds = map (λ (d : Dummy). d .edge) ds
 
-abbrev pub rowsOf : List Dummy → List ℕ
-rowsOf ds = map (λ (d : Dummy). d .row) ds
+abbrev pub dummyRows : List Dummy → List ℕ
+dummyRows ds = map (λ (d : Dummy). d .row) ds
 
 -- What laying the dummies asks for: the first m edges of an array lead down from row to row, and there is room.
 pub record Layable (edges : List Edge) (m : ℕ) (ys owners rows : List ℕ) : Type 0 where

@@ -1,12 +1,13 @@
--- The starred cases of document 01, all of them: a table's bytes, and what is printed for it.
+-- The starred cases of document 01, all of them.
 use mathlib.Core.List.{List, [], _∷_}
 use Rattle.table.specs.Hex.{hex}
-use Rattle.table.specs.Starred.{Case, case}
+use Rattle.table.specs.Starred.{Case, case, sample}
 use Rattle.listing.specs.Text.{text}
 
-abbrev pub starred : List Case
-starred =
-    case (hex "01 04 02 1E 04 77 61 72 6D 00 04 6C 6F 63 6B 00 05 73 77 65 65 70 01 32 05 6C 65 76 65 6C 04 00 01 01 01 01 02 02 03 00 03 01 01 03 02 01 05") (text "chart 4 4 4 14 0\n0 warm=W30\n1 lock=C |2\n2 |1 level=A50\n3 sweep=C\n") ∷
+-- with each table the bytes that are printed for it
+abbrev pub starredListings : List Case
+starredListings =
+    case sample (text "chart 4 4 4 14 0\n0 warm=W30\n1 lock=C |2\n2 |1 level=A50\n3 sweep=C\n") ∷
     case (hex "01 00 00") (text "chart 0 0 0 0 0\n") ∷
     case (hex "") (text "refused 1\n") ∷
     case (hex "02") (text "refused 3\n") ∷

@@ -5,9 +5,9 @@ ghost use mathlib.Core.List.{map};
 ghost use Prim.Native.Nat.{ℕ, suc, _+_, _-_, _≤_, _<_};
 ghost use lib.ListN.{length, take};
 ghost use Rattle.graph.specs.Search.{run};
-ghost use Rattle.ordering.specs.Points.{dummies};
-ghost use Rattle.ordering.specs.Laying.{Stored};
-ghost use Rattle.listing.specs.Printing.{ownersOf, rowsOf, Layable};
+ghost use Rattle.points.specs.Points.{dummies};
+ghost use Rattle.buffers.specs.Written.{Stored};
+ghost use Rattle.listing.specs.Printing.{ownersOf, dummyRows, Layable};
 
 // The dummies of the first m edges of an array, between steps in their rows. Answers how many there are.
 pub fn lay_dummies(
@@ -19,7 +19,7 @@ pub fn lay_dummies(
 ) -> usize
     requires { ⌜ Layable edges m (now ys) (now owners) (now rows) ⌝ }
     ensures { λ r. ⌜ Stored (now (owners .entry)) 0 (ownersOf (dummies (now (ys .entry)) 0 (take m edges))) (now (owners .exit)) r ⌝ }
-    ensures { λ r. ⌜ Stored (now (rows .entry)) 0 (rowsOf (dummies (now (ys .entry)) 0 (take m edges))) (now (rows .exit)) r ⌝ }
+    ensures { λ r. ⌜ Stored (now (rows .entry)) 0 (dummyRows (dummies (now (ys .entry)) 0 (take m edges))) (now (rows .exit)) r ⌝ }
 {
     let mut d = 0;
     for i in 0..m {

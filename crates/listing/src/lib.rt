@@ -1,19 +1,19 @@
 // The printer: the lines of a table's chart, or the line of its refusal, in a buffer that is lent.
 //
-// The call takes any input, ends, and has no condition. Its contract puts its answer and the buffer equal to what a definition of
-// specs/Calls.antt makes of the input.
+// The call takes any input, ends, and has no condition. Its contract puts its answer, told in numbers, and the buffer equal to what a
+// definition of specs/Calls.antt makes of the input.
 mod dummies;
+mod labels;
 pub mod limits;
 mod lines;
 mod page;
-mod points;
 mod text;
 
 use crate::limits::MAX_LISTING;
 use crate::page::print_page;
 use crate::text::put_text;
 ghost use mathlib.Core.Path.{_≡_};
-ghost use Rattle.listing.specs.Calls.{listingCall};
+ghost use Rattle.listing.specs.Calls.{listingCall, listingNumbers};
 
 // The lines are in the first bytes of the buffer, so many; or they are not, since the buffer has fewer bytes than these.
 pub enum ListingAnswer {
@@ -23,7 +23,7 @@ pub enum ListingAnswer {
 
 // What is printed for a table. No listing has more than MAX_LISTING bytes.
 pub fn write_listing(bytes: &[u8], out: &mut [u8]) -> ListingAnswer
-    ensures { λ r. ⌜ r ≡ listingCall (now (bytes .entry)) (now (out .entry)) .answer ⌝ }
+    ensures { λ r. ⌜ listingNumbers r ≡ listingCall (now (bytes .entry)) (now (out .entry)) .numbers ⌝ }
     ensures { λ _. ⌜ now (out .exit) ≡ listingCall (now (bytes .entry)) (now (out .entry)) .out ⌝ }
 {
     let mut page = [0u8; MAX_LISTING];

@@ -1,19 +1,19 @@
 // The lines of a chart and of a refusal.
-use crate::points::put_point;
+use crate::labels::put_point;
 use crate::text::put_byte;
 use crate::text::put_fields;
 use crate::text::put_number;
 use crate::text::put_text;
+use outcome::Refusal;
+use outcome::number_of;
 use table::limits::MAX_STEPS;
-use table::number_of;
-use table::types::Refusal;
 use table::types::Step;
 ghost use mathlib.Core.Path.{_≡_};
 ghost use mathlib.Core.List.{_++_, map};
 ghost use Prim.Native.Nat.{_+_, _≤_, _<_};
 ghost use lib.ListN.{length, drop};
 ghost use Rattle.graph.specs.Rows.{at};
-ghost use Rattle.ordering.specs.Laying.{Stored};
+ghost use Rattle.buffers.specs.Written.{Stored};
 ghost use Rattle.listing.specs.Text.{decimal};
 ghost use Rattle.listing.specs.Listing.{line, refusalText};
 ghost use Rattle.listing.specs.Printing.{labelText, leading, fieldsIn, lineIn, linesFrom, Sheet};

@@ -5,16 +5,15 @@ use crate::lines::put_refusal;
 use crate::lines::put_rows;
 use ordering::chart_table;
 use ordering::types::ChartFound;
+use outcome::Verdict;
 use table::limits::MAX_POINTS;
 use table::types::Table;
-use table::types::Verdict;
 ghost use mathlib.Core.Path.{_≡_};
 ghost use Prim.Native.Nat.{_≤_};
 ghost use lib.ListN.{length};
-ghost use Rattle.table.specs.Table.{read};
-ghost use Rattle.table.specs.Calls.{tableRead};
-ghost use Rattle.table.specs.declared.types.Verdict.the-variants.{Accepted};
-ghost use Rattle.ordering.specs.Laying.{Stored};
+ghost use Rattle.table.specs.Calls.{readCall};
+ghost use Rattle.outcome.specs.declared.Verdict.the-variants.{Accepted};
+ghost use Rattle.buffers.specs.Written.{Stored};
 ghost use Rattle.ordering.specs.Charting.{TableFound};
 ghost use Rattle.listing.specs.Listing.{listing};
 ghost use Rattle.listing.specs.Widths.{maxListing};
@@ -36,7 +35,7 @@ pub fn print_page(bytes: &[u8], page: &mut [u8]) -> usize
 
 // Those of a table that has a chart.
 fn print_chart(bytes: &[u8], table: Table, found: ChartFound, page: &mut [u8]) -> usize
-    requires { ⌜ table ≡ tableRead (read (now bytes)) .table ⌝ }
+    requires { ⌜ table ≡ readCall (now bytes) .table ⌝ }
     requires { ⌜ TableFound (now bytes) found ⌝ }
     requires { ⌜ found .verdict ≡ Accepted ⌝ }
     requires { ⌜ maxListing ≤ length (now page) ⌝ }

@@ -2,7 +2,7 @@
 ghost use mathlib.Core.List.{[], _∷_, map};
 ghost use Prim.Native.Nat.{_+_, _≤_, _<_};
 ghost use lib.ListN.{length};
-ghost use Rattle.ordering.specs.Laying.{Stored};
+ghost use Rattle.buffers.specs.Written.{Stored};
 ghost use Rattle.listing.specs.Text.{decimal};
 ghost use Rattle.listing.specs.Listing.{blanked};
 

@@ -1,57 +1,21 @@
--- Supply and demand of the nodes, and how they are brought to nothing.
+-- How supply and demand are brought to nothing.
 use mathlib.Core.Path.{_≡_}
 use mathlib.Core.List.{List}
-use Prim.Native.Nat.{ℕ, _+_, _≤_, _<_}
+use Prim.Native.Nat.{ℕ, _≤_, _<_}
 use lib.ListN.{length, set, drop}
 use Rattle.graph.specs.Rows.{at}
-use Rattle.network.specs.Limits.{calmLimit, peakLimit}
-use Rattle.network.specs.Network.{sum, Lengths}
-use Rattle.network.specs.Certificate.{Held, Balance}
-use Rattle.network.specs.Push.{Owed}
-use Rattle.network.specs.Search.{Tree}
-
--- The state of the solver: rows that are held, a flow that is balanced with g but for supply and demand. What is sent never exceeds
--- what the weights add up to.
-pub record Flows (from to gap g : List ℕ) (n : ℕ) (y flow supply demand : List ℕ) : Type 0 where
-  pub flow-long : length flow ≡ length from
-  pub supply-long : length supply ≡ n
-  pub demand-long : length demand ≡ n
-  pub held : Held from to gap flow (at y)
-  pub owed : Owed from to flow g supply demand
-  pub small : (i : ℕ) → at flow i + sum supply ≤ sum g
-  pub few : sum supply ≤ sum g
-
--- no row is above b
-pub record Low (n b : ℕ) (y : List ℕ) : Type 0 where
-  pub low : (v : ℕ) → v < n → at y v ≤ b
-
--- Edge e is taken in: its weight is its flow where it is tight, and what its ends send and get elsewhere.
-pub data Loads (from to gap weight y flow supply demand : List ℕ) (e : ℕ) (flow′ supply′ demand′ : List ℕ) : Type 0 where
-  tight : at y (at to e) ≡ at y (at from e) + at gap e → flow′ ≡ set flow e (at weight e) → supply′ ≡ supply → demand′ ≡ demand
-      → Loads from to gap weight y flow supply demand e flow′ supply′ demand′
-  loose : flow′ ≡ flow → supply′ ≡ set supply (at from e) (at supply (at from e) + at weight e)
-      → demand′ ≡ set demand (at to e) (at demand (at to e) + at weight e)
-      → Loads from to gap weight y flow supply demand e flow′ supply′ demand′
-
--- all edges are taken in, at low rows
-pub record Started (from to gap weight : List ℕ) (n : ℕ) (old y flow supply demand : List ℕ) : Type 0 where
-  pub flows : Flows from to gap weight n y flow supply demand
-  pub low : Low n calmLimit y
-  pub long : length y ≡ length old
-  pub rest : drop n y ≡ drop n old
-
--- y after it was lowered where it had come to stand high
-pub record Lowered (from to gap flow : List ℕ) (n : ℕ) (old y : List ℕ) : Type 0 where
-  pub held : Held from to gap flow (at y)
-  pub low : Low n calmLimit y
-  pub long : length y ≡ length old
-  pub rest : drop n y ≡ drop n old
+use Rattle.relaxation.specs.Limits.{calmLimit, peakLimit}
+use Rattle.relaxation.specs.Low.{RowsLow}
+use Rattle.relaxation.specs.Network.{Lengths}
+use Rattle.relaxation.specs.Certificate.{Held, Balance}
+use Rattle.transport.specs.Flow.{Flows}
+use Rattle.augment.specs.Search.{Tree}
 
 -- Sending from s to t asks for a tree from s, grown with all that s has to send, that has t in it, which has a demand.
 pub record Sendable (from to gap g : List ℕ) (n s t : ℕ) (y flow rank parent capacity supply demand : List ℕ) : Type 0 where
   pub flows : Flows from to gap g n y flow supply demand
   pub lengths : Lengths n y rank parent capacity
-  pub low : Low n peakLimit y
+  pub low : RowsLow n peakLimit y
   pub amount : ℕ
   pub whole : amount ≡ at supply s
   pub count : ℕ
@@ -63,7 +27,7 @@ pub record Sendable (from to gap g : List ℕ) (n s t : ℕ) (y flow rank parent
 -- s has less to send, left, and no other node's supply has changed
 pub record Sent (from to gap g : List ℕ) (n s : ℕ) (old supply₀ y flow supply demand : List ℕ) (left : ℕ) : Type 0 where
   pub flows : Flows from to gap g n y flow supply demand
-  pub low : Low n calmLimit y
+  pub low : RowsLow n calmLimit y
   pub long : length y ≡ length old
   pub rest : drop n y ≡ drop n old
   pub only : supply ≡ set supply₀ s left
@@ -74,7 +38,7 @@ pub record Sent (from to gap g : List ℕ) (n s : ℕ) (old supply₀ y flow sup
 pub record Drained (from to gap g : List ℕ) (n s : ℕ) (old supply₀ y flow supply demand rank parent capacity : List ℕ) : Type 0 where
   pub flows : Flows from to gap g n y flow supply demand
   pub empty : supply ≡ set supply₀ s 0
-  pub low : Low n calmLimit y
+  pub low : RowsLow n calmLimit y
   pub lengths : Lengths n y rank parent capacity
   pub long : length y ≡ length old
   pub rest : drop n y ≡ drop n old
@@ -86,7 +50,25 @@ pub record DrainedAll (from to gap weight : List ℕ) (n : ℕ) (old y flow supp
   pub flow-long : length flow ≡ length from
   pub held : Held from to gap flow (at y)
   pub balance : Balance from to flow weight
-  pub low : Low n calmLimit y
+  pub low : RowsLow n calmLimit y
   pub long : length y ≡ length old
   pub rest : drop n y ≡ drop n old
   pub y-long : n ≤ length y
+
+-- some of what nodes had to send is sent, and the next search may begin
+pub record Calm (from to gap g : List ℕ) (n : ℕ) (old y flow supply demand rank parent capacity : List ℕ) : Type 0 where
+  pub flows : Flows from to gap g n y flow supply demand
+  pub low : RowsLow n calmLimit y
+  pub lengths : Lengths n y rank parent capacity
+  pub long : length y ≡ length old
+  pub rest : drop n y ≡ drop n old
+
+-- of a node found so far, best, and a node v with an amount to send, one that has something to send; at n none is found
+pub data Picks (n best v amount r : ℕ) : Type 0 where
+  same : r ≡ best → (n ≤ best → amount ≡ 0) → Picks n best v amount r
+  other : r ≡ v → 0 < amount → Picks n best v amount r
+
+-- Of the first k nodes r has something to send, or r is at least n and none of them has
+pub record NextSupply (n k : ℕ) (supply : List ℕ) (r : ℕ) : Type 0 where
+  pub none : n ≤ r → (v : ℕ) → v < k → at supply v ≡ 0
+  pub some : r < n → 0 < at supply r

@@ -1,59 +1,19 @@
 // Draining: what each node has to send is sent to nodes that have a demand.
-use crate::fill::smaller_of;
-use crate::fill::take_at;
-use crate::push::push_flow;
-use crate::relax::relax_edges;
-use crate::tree::grow_tree;
-use crate::tree::plant_root;
+use augment::push::push_flow;
+use augment::tree::grow_tree;
+use augment::tree::plant_root;
+use relaxation::fill::read_entry;
+use relaxation::fill::smaller_of;
+use relaxation::fill::take_at;
+use relaxation::low::lower_rows;
 ghost use mathlib.Core.Path.{_≡_};
-ghost use Prim.Native.Nat.{_≤_, _<_};
+ghost use Prim.Native.Nat.{_<_};
 ghost use lib.ListN.{length};
-ghost use Rattle.graph.specs.Rows.{at};
-ghost use Rattle.network.specs.Certificate.{Held};
-ghost use Rattle.network.specs.Drain.{Flows, Low, Lowered, Sendable, Sent, Drained, DrainedAll};
-ghost use Rattle.network.specs.Limits.{weightLimit, calmLimit, peakLimit};
-ghost use Rattle.network.specs.Network.{sum, Shaped, Narrow, Lengths};
-
-// Relaxed rows are never above it; higher ones are relaxed again before the next search.
-const CALM_LIMIT: usize = 17592186044416;
-
-// 0 where none of the first n entries is above the limit of relaxed rows.
-pub fn find_high(y: &[usize], n: usize) -> usize
-    requires { ⌜ n ≤ length (now y) ⌝ }
-    ensures { λ r. ⌜ (r ≡ 0 → Low n calmLimit (now (y .entry))) ⌝ }
-{
-    let mut v = 0;
-    while v < n {
-        if y[v] > CALM_LIMIT {
-            return 1;
-        }
-        v += 1;
-    }
-    0
-}
-
-// The rows relaxed again, where they have come to stand high: no row can grow past a word.
-pub fn lower_rows(
-    from: &[usize],
-    to: &[usize],
-    gap: &[usize],
-    flow: &[usize],
-    n: usize,
-    y: &mut [usize],
-)
-    requires { ⌜ Shaped (now from) (now to) (now gap) n ⌝ }
-    requires { ⌜ length (now flow) ≡ length (now from) ⌝ }
-    requires { ⌜ n ≤ length (now y) ⌝ }
-    requires { ⌜ Narrow (now gap) n ⌝ }
-    requires { ⌜ Held (now from) (now to) (now gap) (now flow) (at (now y)) ⌝ }
-    requires { ⌜ Low n peakLimit (now y) ⌝ }
-    ensures { λ _. ⌜ Lowered (now (from .entry)) (now (to .entry)) (now (gap .entry)) (now (flow .entry)) n (now (y .entry)) (now (y .exit)) ⌝ }
-{
-    if find_high(y, n) == 0 {
-        return;
-    }
-    relax_edges(from, to, gap, flow, n, y);
-}
+ghost use Rattle.transport.specs.Flow.{Flows};
+ghost use Rattle.relaxation.specs.Low.{RowsLow};
+ghost use Rattle.network.specs.Drain.{Sendable, Sent, Drained, Picks, NextSupply, DrainedAll};
+ghost use Rattle.relaxation.specs.Limits.{weightLimit, calmLimit};
+ghost use Rattle.relaxation.specs.Network.{sum, Shaped, Narrow, Lengths};
 
 // As much as can come to node t and t wants, sent there from node s over the tree; what s has still to send.
 fn send_flow(
@@ -130,7 +90,7 @@ pub fn drain_node(
     requires { ⌜ Lengths n (now y) (now rank) (now parent) (now capacity) ⌝ }
     requires { ⌜ Narrow (now gap) n ⌝ }
     requires { ⌜ Flows (now from) (now to) (now gap) (now weight) n (now y) (now flow) (now supply) (now demand) ⌝ }
-    requires { ⌜ Low n calmLimit (now y) ⌝ }
+    requires { ⌜ RowsLow n calmLimit (now y) ⌝ }
     requires { ⌜ s < n ⌝ }
     ensures { λ _. ⌜ Drained (now (from .entry)) (now (to .entry)) (now (gap .entry)) (now (weight .entry)) n s (now (y .entry)) (now (supply .entry)) (now (y .exit)) (now (flow .exit)) (now (supply .exit)) (now (demand .exit)) (now (rank .exit)) (now (parent .exit)) (now (capacity .exit)) ⌝ }
 {
@@ -177,7 +137,37 @@ pub fn drain_node(
     }
 }
 
-// All that the nodes have to send, sent.
+// The higher one of the node found so far and of v, which has an amount to send; at n none is found.
+fn pick_node(y: &[usize], n: usize, best: usize, v: usize, amount: usize) -> usize
+    ensures { λ r. ⌜ Picks n best v amount r ⌝ }
+{
+    if amount == 0 {
+        return best;
+    }
+    if best >= n {
+        return v;
+    }
+    if read_entry(y, best) >= read_entry(y, v) {
+        return best;
+    }
+    v
+}
+
+// The highest node that has something to send; n where there is none.
+fn find_supply(y: &[usize], supply: &[usize], n: usize) -> usize
+    requires { ⌜ length (now supply) ≡ n ⌝ }
+    ensures { λ r. ⌜ NextSupply n n (now (supply .entry)) r ⌝ }
+{
+    let mut best = n;
+    let mut v = 0;
+    while v < n {
+        best = pick_node(y, n, best, v, supply[v]);
+        v += 1;
+    }
+    best
+}
+
+// All that the nodes have to send, sent, the highest node first.
 pub fn drain_nodes(
     from: &[usize],
     to: &[usize],
@@ -203,10 +193,10 @@ pub fn drain_nodes(
     requires { ⌜ Lengths n (now y) (now rank) (now parent) (now capacity) ⌝ }
     requires { ⌜ Narrow (now gap) n ⌝ }
     requires { ⌜ Flows (now from) (now to) (now gap) (now weight) n (now y) (now flow) (now supply) (now demand) ⌝ }
-    requires { ⌜ Low n calmLimit (now y) ⌝ }
+    requires { ⌜ RowsLow n calmLimit (now y) ⌝ }
     ensures { λ _. ⌜ DrainedAll (now (from .entry)) (now (to .entry)) (now (gap .entry)) (now (weight .entry)) n (now (y .entry)) (now (y .exit)) (now (flow .exit)) (now (supply .exit)) (now (demand .exit)) ⌝ }
 {
-    let mut s = 0;
+    let mut s = find_supply(y, supply, n);
     while s < n {
         drain_node(
             from,
@@ -228,6 +218,6 @@ pub fn drain_nodes(
             queue,
             s,
         );
-        s += 1;
+        s = find_supply(y, supply, n);
     }
 }

@@ -1,21 +1,15 @@
 // Best rows of a network of edges with gaps and weights, and a flow that certifies them: a primal-dual method with supply and demand by node.
-mod arcs;
 mod drain;
-mod exit;
-mod fill;
-mod load;
-mod push;
-mod relax;
-mod tree;
 
-use crate::arcs::link_lists;
 use crate::drain::drain_nodes;
-use crate::load::start_flow;
-use crate::relax::relax_edges;
+use relaxation::arcs::link_lists;
+use relaxation::relax::relax_above;
+use start::begin::ease_flow;
+use start::begin::start_flow;
 ghost use lib.ListN.{length};
-ghost use Rattle.network.specs.Certificate.{Certified};
-ghost use Rattle.network.specs.Limits.{rowLimit};
-ghost use Rattle.network.specs.Network.{Network, Bounded, Buffers};
+ghost use Rattle.relaxation.specs.Certificate.{Certified};
+ghost use Rattle.relaxation.specs.Limits.{rowLimit};
+ghost use Rattle.relaxation.specs.Network.{Network, Bounded, Buffers};
 
 // The best rows of the n nodes, in the first n entries of y, and a flow that certifies them. Some feasible rows must exist.
 pub fn solve(
@@ -36,14 +30,50 @@ pub fn solve(
     in_head: &mut [usize],
     in_next: &mut [usize],
     queue: &mut [usize],
+    lowest: &mut [usize],
 )
     requires { ⌜ Network (now from) (now to) (now gap) (now weight) n ⌝ }
     requires { ⌜ Bounded (now from) (now to) (now gap) n rowLimit ⌝ }
-    requires { ⌜ Buffers (length (now from)) n (now y) (now flow) (now rank) (now parent) (now capacity) (now supply) (now demand) ⌝ }
+    requires { ⌜ Buffers (length (now from)) n (now y) (now flow) (now rank) (now parent) (now capacity) (now supply) (now demand) (now lowest) ⌝ }
     ensures { λ _. ⌜ Certified (now (from .entry)) (now (to .entry)) (now (gap .entry)) (now (weight .entry)) n (now (y .entry)) (now (y .exit)) (now (flow .exit)) ⌝ }
 {
-    start_flow(from, to, gap, weight, n, y, flow, supply, demand);
     link_lists(from, to, out_head, out_next, in_head, in_next);
+    start_flow(
+        from,
+        to,
+        gap,
+        weight,
+        n,
+        y,
+        flow,
+        rank,
+        parent,
+        capacity,
+        supply,
+        demand,
+        out_head,
+        out_next,
+        lowest,
+    );
+    ease_flow(
+        from,
+        to,
+        gap,
+        weight,
+        n,
+        y,
+        flow,
+        rank,
+        parent,
+        capacity,
+        supply,
+        demand,
+        out_head,
+        out_next,
+        in_head,
+        in_next,
+        queue,
+    );
     drain_nodes(
         from,
         to,
@@ -63,5 +93,5 @@ pub fn solve(
         in_next,
         queue,
     );
-    relax_edges(from, to, gap, flow, n, y);
+    relax_above(from, to, gap, flow, n, y, lowest);
 }

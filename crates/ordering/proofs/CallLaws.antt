@@ -2,29 +2,32 @@
 use mathlib.Core.Path.{_≡_, refl, sym, ap, _∙_, subst}
 use mathlib.Core.Bool.{Bool, true, false}
 use mathlib.Core.List.{List}
-use Prim.Native.Nat.{ℕ, _-_, _≤_}
+use Prim.Native.Nat.{ℕ, _≤_}
 use native.Mathlib.Omega.{arith}
 use lib.Dec.{leb}
-use lib.ListN.{length, take, length-append, length-replicate}
-use lib.Seq.{take-append-seam}
+use lib.ListN.{length, take}
 use Rattle.graph.specs.declared.Edge.{Edge}
-use Rattle.graph.specs.Rows.{noEdge}
-use Rattle.table.specs.declared.types.Refusal.{Refusal}
-use Rattle.table.specs.declared.types.Refusal.the-variants.{ManyPoints}
+use Rattle.graph.specs.Rows.{at, total}
+use Rattle.outcome.specs.declared.Refusal.{Refusal}
+use Rattle.outcome.specs.declared.Refusal.the-variants.{ManyPoints}
 use Rattle.table.specs.declared.types.Table.{Table}
-use Rattle.table.specs.declared.types.Verdict.the-variants.{Accepted, Refused}
-use Rattle.table.specs.Limits.{maxEdges, maxPoints}
-use Rattle.table.specs.Refusal.{Outcome, done, refused, thenDo, demand}
-use Rattle.table.specs.Table.{Contents, read}
-use Rattle.table.specs.Calls.{padded, tableRead}
+use Rattle.outcome.specs.declared.Verdict.{Verdict}
+use Rattle.outcome.specs.declared.Verdict.the-variants.{Accepted, Refused}
+use Rattle.table.specs.Limits.{maxSteps, maxEdges, maxPoints}
+use Rattle.outcome.specs.Refusal.{Outcome, done, refused, thenDo, demand, numbersOf, told, bare, verdictNumbers}
+use Rattle.table.specs.Table.{Contents, contentsOf, read}
+use Rattle.table.specs.Calls.{readCall}
+use Rattle.buffers.specs.Padded.{padded}
 use Rattle.table.proofs.FairLaws.{read-fair}
+use Rattle.table.proofs.ArrayLaws.{array-steps, array-edges, array-few, array-long}
 use Rattle.layering.specs.declared.types.RowsFound.{RowsFound}
-use Rattle.layering.specs.Calls.{rowsFound, rowsOfTable}
-use Rattle.layering.specs.Placed.{outcomeBy, contentsOf, TablePlaced}
+use Rattle.layering.specs.Calls.{rowsFound, rowsOfTable, rowsBy, totalBy}
+use Rattle.layering.specs.Placed.{outcomeBy, TablePlaced}
 use Rattle.ordering.specs.declared.ChartAnswer.{ChartAnswer}
 use Rattle.ordering.specs.declared.types.ChartFound.{ChartFound}
-use Rattle.ordering.specs.Calls.{pointCount, unlessMany, chartOfTable, charted, chartOut, chartCall, chartAnswer, RowsBest, ChartBest}
-use Rattle.ordering.specs.Charting.{Solved, foundOf, unlessLarge, EdgesFound, TableFound, HandedOut}
+use Rattle.ordering.specs.declared.types.TableChart.{TableChart}
+use Rattle.ordering.specs.Calls.{Placing, pointCount, unlessMany, chartOfTable, charted, chartOut, chartCall, chartNumbers, ChartBest, ChartArrays, DrawEnd, drawCall, drawEnd}
+use Rattle.ordering.specs.Charting.{RowsGiven, noChart, chartedBy, heldChart, unlessLarge, EdgesFound, TableFound, ChartHandedOut}
 use Rattle.ordering.proofs.ChartLaws.{found-refused}
 use Rattle.ordering.proofs.HandLaws.{handed-best}
 
@@ -45,8 +48,8 @@ out-refused bytes {r} e = go (read bytes) e
     go (done t) w = rw (sym w)
     go (refused k) w = cc
 
-module _ (bytes : List ℕ) (table : Table) (f : RowsFound) (same : table ≡ tableRead (read bytes) .table) (placed : TablePlaced bytes f) where
-  pub table-refused : {r : Refusal} → f .verdict ≡ Refused r → (c : ChartFound) → c .verdict ≡ Refused r → TableFound bytes c
+module _ (bytes : List ℕ) (table : Table) (f : RowsFound) (same : table ≡ readCall bytes .table) (placed : TablePlaced bytes f) where
+  pub table-refused : {r : Refusal} → f .verdict ≡ Refused r → (c : ChartFound) → c ≡ noChart r → TableFound bytes c
   table-refused {r} e c v =
       found-refused _ _ _ c v
       (out-refused bytes (sym (ap (λ u. outcomeBy u (take (length (contentsOf (read bytes) .steps)) (f .rows))) e) ∙ placed .says))
@@ -73,30 +76,17 @@ module _ (bytes : List ℕ) (table : Table) (f : RowsFound) (same : table ≡ ta
       abbrev edges-of : List Edge
       edges-of = t .contents .edges
 
-      whole : table ≡ tableRead (done (t .contents)) .table
-      whole = same ∙ ap (λ o. tableRead o .table) (t .outcome)
-
-      table-n : table .n ≡ length (t .contents .steps)
-      table-n = ap (λ (x : Table). x .n) whole
-
-      table-m : table .m ≡ length edges-of
-      table-m = ap (λ (x : Table). x .m) whole
-
-      table-list : table .edges ≡ padded maxEdges noEdge edges-of
-      table-list = ap (λ (x : Table). x .edges) whole
-
-      table-same : take (table .m) (table .edges) ≡ edges-of
-      unfolding padded
-      table-same = ap (λ k. take k (table .edges)) table-m ∙ ap (take (length edges-of)) table-list ∙ take-append-seam edges-of _
-
       pub table-few : table .m ≤ maxEdges
-      table-few = omega (arith, table-m, read-fair bytes (t .outcome) .few-edges)
+      table-few = array-few bytes table same (t .contents) (t .outcome)
 
       pub table-long : length (table .edges) ≡ maxEdges
-      unfolding padded
-      table-long =
-          ap length table-list ∙ length-append edges-of _
-          ∙ rw (length-replicate (maxEdges - length edges-of) noEdge) (omega (arith, read-fair bytes (t .outcome) .few-edges))
+      table-long = array-long bytes table same (t .contents) (t .outcome)
+
+      table-n : table .n ≡ length (t .contents .steps)
+      table-n = array-steps bytes table same (t .contents) (t .outcome)
+
+      table-same : take (table .m) (table .edges) ≡ edges-of
+      table-same = array-edges bytes table same (t .contents) (t .outcome)
 
       steps-same : length (contentsOf (read bytes) .steps) ≡ length (t .contents .steps)
       steps-same = ap (λ o. length (contentsOf o .steps)) (t .outcome)
@@ -104,7 +94,17 @@ module _ (bytes : List ℕ) (table : Table) (f : RowsFound) (same : table ≡ ta
       edges-same : contentsOf (read bytes) .edges ≡ edges-of
       edges-same = ap (λ o. contentsOf o .edges) (t .outcome)
 
-      solved-of : Solved (length (contentsOf (read bytes) .steps)) (contentsOf (read bytes) .edges) (f .rows) (f .total)
+      -- what was found is the rows in the array
+      rows-here : rowsOfTable bytes ≡ done (take (length (contentsOf (read bytes) .steps)) (f .rows))
+      rows-here = sym (placed .says) ∙ ap (λ u. outcomeBy u (take (length (contentsOf (read bytes) .steps)) (f .rows))) a
+
+      summed : f .total ≡ total (contentsOf (read bytes) .edges) (at (take (length (contentsOf (read bytes) .steps)) (f .rows)))
+      summed = placed .summed ∙ ap (totalBy (contentsOf (read bytes) .edges)) rows-here
+
+      blank : f .rows ≡ padded maxSteps 0 (take (length (contentsOf (read bytes) .steps)) (f .rows))
+      blank = placed .blank ∙ ap (λ o. padded maxSteps 0 (rowsBy o)) rows-here
+
+      solved-of : RowsGiven (length (contentsOf (read bytes) .steps)) (contentsOf (read bytes) .edges) (f .rows) (f .total)
       solved-of =
           record {
             fair =
@@ -115,39 +115,58 @@ module _ (bytes : List ℕ) (table : Table) (f : RowsFound) (same : table ≡ ta
                   each = read-fair bytes (t .outcome) .each-edge;
                 });
             best = placed .best a;
-            summed = placed .summed a;
+            summed = summed;
+            blank = blank;
             long = placed .low .long;
             low = placed .low .low a;
           }
 
-      pub table-solved : Solved (table .n) (take (table .m) (table .edges)) (f .rows) (f .total)
+      pub table-solved : RowsGiven (table .n) (take (table .m) (table .edges)) (f .rows) (f .total)
       table-solved =
-          subst (λ (k : ℕ). Solved k (take (table .m) (table .edges)) (f .rows) (f .total)) (steps-same ∙ sym table-n)
-          (subst (λ (l : List Edge). Solved (length (contentsOf (read bytes) .steps)) l (f .rows) (f .total)) (edges-same ∙ sym table-same) solved-of)
+          subst (λ (k : ℕ). RowsGiven k (take (table .m) (table .edges)) (f .rows) (f .total)) (steps-same ∙ sym table-n)
+          (subst (λ (l : List Edge). RowsGiven (length (contentsOf (read bytes) .steps)) l (f .rows) (f .total)) (edges-same ∙ sym table-same) solved-of)
 
       out-of : chartOut (chartOfTable bytes) ≡ unlessLarge (take (length (t .contents .steps)) (f .rows)) edges-of
       unfolding chartOfTable
       out-of = rw (t .outcome, sym (t .rows-are)) (out-large (t .contents) (take (length (t .contents .steps)) (f .rows)))
 
-      pub table-found : (c : ChartFound) → EdgesFound (table .n) (take (table .m) (table .edges)) (take (table .n) (f .rows)) c → TableFound bytes c
-      table-found c e =
+      pub table-drawn : (c : ChartFound) → EdgesFound (table .n) (take (table .m) (table .edges)) (take (table .n) (f .rows)) c → TableFound bytes c
+      table-drawn c e =
           rw (out-of, t .outcome)
           (subst (λ (l : List Edge). EdgesFound (length (t .contents .steps)) l (take (length (t .contents .steps)) (f .rows)) c) table-same
           (subst (λ (k : ℕ). EdgesFound k (take (table .m) (table .edges)) (take k (f .rows)) c) table-n e))
 
 -- ---- the whole chart
 
-chart-best : (o : Outcome Contents) (r : ChartAnswer) (new : List ℕ)
-    → RowsBest (length (contentsOf o .steps)) (contentsOf o .edges) r new → ChartBest o r new
-chart-best (done t) r new b = b
-chart-best (refused k) r new b = tt
-
 -- what the call promises
 pub chart-call : (bytes : List ℕ) (f : ChartFound) (rows order rows′ order′ : List ℕ) (r : ChartAnswer) → TableFound bytes f
-    → HandedOut (foundOf f) rows order rows′ order′ r
-    → (r ≡ chartAnswer (chartCall bytes rows order .answer)) × ((rows′ ≡ chartCall bytes rows order .rows)
-    × ((order′ ≡ chartCall bytes rows order .order) × ChartBest (read bytes) r rows′))
+    → ChartHandedOut (heldChart f) rows order rows′ order′ r
+    → (chartNumbers r ≡ chartCall bytes rows order .numbers) × ((rows′ ≡ chartCall bytes rows order .rows)
+    × ((order′ ≡ chartCall bytes rows order .order) × ChartBest bytes (chartNumbers r) rows′))
 unfolding chartCall
 chart-call bytes f rows order rows′ order′ r p h =
-    let k : HandedOut (chartOut (chartOfTable bytes)) rows order rows′ order′ r = subst (λ o. HandedOut o rows order rows′ order′ r) (p .says) h in
-    (k .answer, (k .rows-are, (k .order-is, chart-best (read bytes) r rows′ (handed-best _ _ _ f p rows order rows′ order′ r k))))
+    let k : ChartHandedOut (chartOut (chartOfTable bytes)) rows order rows′ order′ r = subst (λ o. ChartHandedOut o rows order rows′ order′ r) (p .says) h in
+    (k .numbers, (k .rows-are, (k .order-is, handed-best _ _ _ f p rows order rows′ order′ r k)))
+
+-- what the functions behind the chart found is what a layer above is promised
+pub chart-end : (bytes : List ℕ) (r : TableChart) → r .table ≡ readCall bytes .table → TableFound bytes (r .found) → drawEnd r ≡ drawCall bytes
+unfolding drawCall
+chart-end bytes r t p = three numbers t (p .whole)
+  where
+    three : {x x′ : List ℕ} {y y′ : Table} {z z′ : ChartArrays} → x ≡ x′ → y ≡ y′ → z ≡ z′
+        → _≡_ {A = DrawEnd} (record { numbers = x; table = y; arrays = z }) (record { numbers = x′; table = y′; arrays = z′ })
+    three a b c = rw (a, b, c)
+
+    numbers : verdictNumbers (r .found .verdict) ≡ told bare (chartOfTable bytes)
+    numbers = go (r .found .verdict) (chartOfTable bytes) (p .says)
+      where
+        go : (v : Verdict) (o : Outcome Placing) → outcomeBy v (chartedBy (r .found)) ≡ chartOut o → verdictNumbers v ≡ told bare o
+        go Accepted (done x) e = refl
+        go Accepted (refused k) e = let z : _≡_ {A = ℕ} 0 1 = cc in absurd (omega arith)
+        go (Refused k) (done x) e = let z : _≡_ {A = ℕ} 0 1 = cc in absurd (omega arith)
+        go (Refused k) (refused j) e = let q : k ≡ j = cc in ap numbersOf q
+
+-- the table that comes with it
+pub chart-here : (bytes : List ℕ) (r : TableChart) → drawEnd r ≡ drawCall bytes → r .table ≡ readCall bytes .table
+unfolding drawCall
+chart-here bytes r e = ap (λ (x : DrawEnd). x .table) e

@@ -1,27 +1,29 @@
 -- Best rows of fair edges make a chart: each edge leads down by its gap at least, and that is 1 or more. What is drawn from the ends of
 -- the edges is the chart of the edges, since gaps and weights play no part in it.
-use mathlib.Core.Path.{_≡_, sym, ap, _∙_}
+use mathlib.Core.Path.{_≡_, refl, sym, ap, _∙_}
 use mathlib.Core.List.{List, flatten}
 use Prim.Native.Nat.{ℕ, _≤_, _<_}
 use native.Mathlib.Omega.{arith}
 use borrow.Author.Tests.{le-leb, lt-leb}
 use lib.ListN.{length, getD, take, length-map, List·getD-map}
-use lib.Seq.{getD-take}
+use lib.Seq.{getD-take, length-take-le}
 use Rattle.graph.specs.declared.Edge.{Edge}
 use Rattle.graph.specs.Rows.{at, noEdge, total}
-use Rattle.table.specs.declared.types.Refusal.{Refusal}
-use Rattle.table.specs.declared.types.Refusal.the-variants.{ManyPoints}
-use Rattle.table.specs.declared.types.Verdict.the-variants.{Accepted, Refused}
+use Rattle.outcome.specs.declared.Refusal.{Refusal}
+use Rattle.outcome.specs.declared.Refusal.the-variants.{ManyPoints}
+use Rattle.outcome.specs.declared.Verdict.the-variants.{Accepted, Refused}
 use Rattle.table.specs.Limits.{maxPoints}
-use Rattle.table.specs.Refusal.{Outcome, done, refused}
+use Rattle.outcome.specs.Refusal.{Outcome, done, refused}
+use Rattle.buffers.specs.Padded.{padded}
+use Rattle.buffers.proofs.PaddedLaws.{padded-long, padded-front}
 use Rattle.ordering.specs.declared.types.ChartFound.{ChartFound}
-use Rattle.ordering.specs.Points.{pointRows, rowCount}
-use Rattle.ordering.specs.Crossings.{Drawing, drawingOf}
-use Rattle.ordering.specs.Laying.{edgesBetween, Chart}
-use Rattle.ordering.specs.Calls.{pointCount, Charted}
+use Rattle.points.specs.Points.{pointRows, rowCount}
+use Rattle.ordering.specs.Fewest.{Drawing, drawingOf}
+use Rattle.points.specs.Laying.{edgesBetween, Chart}
+use Rattle.ordering.specs.Calls.{pointCount, Charted, chartBy, ChartArrays, arraysOf, arraysIn}
 use Rattle.layering.specs.Placed.{outcomeBy}
-use Rattle.ordering.specs.Charting.{chartedBy, Sizable, PointsAre, Solved, Found, unlessLarge, EdgesFound}
-use Rattle.ordering.proofs.PointLaws.{tails, heads, any-points, any-segments}
+use Rattle.ordering.specs.Charting.{noChart, chartedBy, Sizable, PointsAre, RowsGiven, ChartHeld, unlessLarge, EdgesFound}
+use Rattle.points.proofs.PointLaws.{tails, heads, any-points, any-segments}
 use Rattle.ordering.proofs.CompleteLaws.{drawing-count, drawing-points}
 
 -- the drawing of edges is that of their ends
@@ -35,20 +37,35 @@ tail-at edges i = List·getD-map (λ (e : Edge). e .from) edges i noEdge
 head-at : (edges : List Edge) (i : ℕ) → at (heads edges) i ≡ getD edges i noEdge .to
 head-at edges i = List·getD-map (λ (e : Edge). e .to) edges i noEdge
 
--- a refusal is found whatever the arrays hold
-pub found-refused : (n : ℕ) (edges : List Edge) (what : Outcome Charted) (f : ChartFound) {r : Refusal} → f .verdict ≡ Refused r → what ≡ refused r
-    → Found n edges what f
+-- a refusal leaves a blank chart
+pub found-refused : (n : ℕ) (edges : List Edge) (what : Outcome Charted) (f : ChartFound) {r : Refusal} → f ≡ noChart r → what ≡ refused r
+    → ChartHeld n edges what f
+unfolding rowCount
 found-refused n edges what f {r} e w =
     record {
-      says = ap (λ v. outcomeBy v (chartedBy f)) e ∙ sym w;
+      says = ap (λ v. outcomeBy v (chartedBy f)) verdict-is ∙ sym w;
+      whole = rw w (ap arraysIn e ∙ blank);
       handable = record { storable = λ a. absurd (clash a) };
       best = λ a. absurd (clash a);
       summed = λ a. absurd (clash a);
       tall = λ a. absurd (clash a);
     }
   where
+    verdict-is : f .verdict ≡ Refused r
+    verdict-is = ap (λ (x : ChartFound). x .verdict) e
+
+    blank : arraysIn (noChart r) ≡ arraysOf (chartBy (refused r))
+    blank = refl
+
     clash : f .verdict ≡ Accepted → ⊥
-    clash a = let z : _≡_ {A = ℕ} 0 1 = cc in omega arith
+    clash a = let v = verdict-is in let z : _≡_ {A = ℕ} 0 1 = cc in omega arith
+
+-- arrays are the same part by part
+arrays-same : {n n′ height height′ p p′ t t′ c c′ : ℕ} {rows rows′ order order′ : List ℕ} → n ≡ n′ → rows ≡ rows′ → height ≡ height′ → order ≡ order′
+    → p ≡ p′ → t ≡ t′ → c ≡ c′
+    → _≡_ {A = ChartArrays} (record { n = n; rows = rows; height = height; order = order; figures = record { points = p; total = t; crossings = c } })
+    (record { n = n′; rows = rows′; height = height′; order = order′; figures = record { points = p′; total = t′; crossings = c′ } })
+arrays-same a b d e f g h = rw (a, b, d, e, f, g, h)
 
 -- what is handed out, part by part
 charted-by : (ys o o′ : List ℕ) (p p′ t t′ c c′ : ℕ) → o ≡ o′ → p ≡ p′ → t ≡ t′ → c ≡ c′
@@ -56,7 +73,7 @@ charted-by : (ys o o′ : List ℕ) (p p′ t t′ c c′ : ℕ) → o ≡ o′ 
     (done (record { rows = ys; order = o′; figures = record { points = p′; total = t′; crossings = c′ } }))
 charted-by ys o o′ p p′ t t′ c c′ a b d e = rw (a, b, d, e)
 
-module _ (n : ℕ) (edges : List Edge) (rows : List ℕ) (sum : ℕ) (s : Solved n edges rows sum) where
+module _ (n : ℕ) (edges : List Edge) (rows : List ℕ) (sum : ℕ) (s : RowsGiven n edges rows sum) where
   low-at : (v : ℕ) → v < length (take n rows) → at (take n rows) v < maxPoints
   low-at v h =
       let l : v < n = omega (arith, s .best .one-a-node) in
@@ -105,24 +122,25 @@ module _ (n : ℕ) (edges : List Edge) (rows : List ℕ) (sum : ℕ) (s : Solved
       drawing-is : drawingOf (take n rows) (edgesBetween from to) ≡ drawingOf (take n rows) edges
       drawing-is = ap (drawingOf (take n rows)) edges-of ∙ drawing-of-ends (take n rows) edges
 
-      pub found-many : maxPoints < points → (f : ChartFound) → f .verdict ≡ Refused ManyPoints → EdgesFound n edges (take n rows) f
+      pub found-many : maxPoints < points → (f : ChartFound) → f ≡ noChart ManyPoints → EdgesFound n edges (take n rows) f
       found-many h f e =
           found-refused n edges _ f e (simp (lt-leb (pointCount (take n rows) edges) maxPoints (omega (arith, count-is))))
 
-      pub found-drawn : (height : ℕ) → height ≡ rowCount (take n rows) → points ≤ maxPoints
+      pub found-drawn : (height : ℕ) → height ≡ rowCount (take n rows) → points ≤ maxPoints → (array : List ℕ) → array ≡ padded maxPoints 0 (take points order)
           → EdgesFound n edges (take n rows)
-          (record { verdict = Accepted; n = n; rows = rows; height = height; points = points; order = order; total = sum; crossings = crossings })
-      found-drawn height e h =
+          (record { verdict = Accepted; n = n; rows = rows; height = height; points = points; order = array; total = sum; crossings = crossings })
+      found-drawn height e h array same =
           let d = p .drawn h in
           record {
             says = says;
+            whole = whole;
             handable =
                 record {
                   storable =
                       λ a.
                       record {
                         few-rows = omega (arith, s .long, s .fair .few-steps);
-                        few-points = omega (arith, d .long);
+                        few-points = omega (arith, array-long);
                         low-rows = s .low;
                         low-points = low;
                       };
@@ -141,16 +159,31 @@ module _ (n : ℕ) (edges : List Edge) (rows : List ℕ) (sum : ℕ) (s : Solved
           ordered : take points order ≡ flatten (drawingOf (take n rows) edges .order)
           ordered = handed ∙ ap (λ (g : Drawing). flatten (g .order)) drawing-is
 
-          low : (i : ℕ) → i < points → at order i < maxPoints
+          front : take points array ≡ take points order
+          front =
+              ap (take points) same
+              ∙ ap (λ k. take k (padded maxPoints 0 (take points order))) (sym (length-take-le points order (omega (arith, p .drawn h .long))))
+              ∙ padded-front maxPoints 0 (take points order)
+
+          array-long : length array ≡ maxPoints
+          array-long = ap length same ∙ padded-long maxPoints 0 (take points order) (omega (arith, length-take-le points order (omega (arith, p .drawn h .long))))
+
+          low : (i : ℕ) → i < points → at array i < maxPoints
           low i l =
-              let e : at (take points order) i ≡ at order i = getD-take points order i 0 l in
-              let f = ap (λ t. at t i) handed in
+              let e : at (take points array) i ≡ at array i = getD-take points array i 0 l in
+              let f = ap (λ t. at t i) (front ∙ handed) in
               omega (arith, drawing-points (take n rows) (edgesBetween from to) i (omega (arith, p .count)), p .count)
 
           crossed : crossings ≡ drawingOf (take n rows) edges .crossings
           crossed = p .drawn h .crossings-are ∙ ap (λ (g : Drawing). g .crossings) drawing-is
 
-          says : done (record { rows = take n rows; order = take points order; figures = record { points = points; total = sum; crossings = crossings } }) ≡ unlessLarge (take n rows) edges
+          says : done (record { rows = take n rows; order = take points array; figures = record { points = points; total = sum; crossings = crossings } }) ≡ unlessLarge (take n rows) edges
           says =
               simp (le-leb (pointCount (take n rows) edges) maxPoints (omega (arith, count-is)))
-              (charted-by (take n rows) _ _ _ _ _ _ _ _ ordered count-is (s .summed) crossed)
+              (charted-by (take n rows) _ _ _ _ _ _ _ _ (front ∙ ordered) count-is (s .summed) crossed)
+
+          whole : record { n = n; rows = rows; height = height; order = array; figures = record { points = points; total = sum; crossings = crossings } }
+              ≡ arraysOf (chartBy (unlessLarge (take n rows) edges))
+          whole =
+              simp (le-leb (pointCount (take n rows) edges) maxPoints (omega (arith, count-is)))
+              (arrays-same (sym (s .best .one-a-node)) (s .blank) e (same ∙ ap (padded maxPoints 0) ordered) count-is (s .summed) crossed)

@@ -12,18 +12,19 @@ use lib.Seq.{take-all, length-take-le}
 use Rattle.graph.specs.declared.Edge.{Edge}
 use Rattle.graph.specs.Rows.{at}
 use Rattle.graph.specs.Search.{run}
-use Rattle.ordering.specs.Points.{Segment, between, pointRows, segments, rowCount}
-use Rattle.ordering.specs.Means.{reorder}
-use Rattle.ordering.specs.Order.{Direction, downward, upward, turned, place, startOrder, endsAbove, endsBelow, settleRow, downFrom, upFrom, pass, results}
-use Rattle.ordering.specs.Crossings.{Drawing, drawn, fewest, passCount, bestOrder, drawingOf}
-use Rattle.ordering.specs.Flat.{Below}
-use Rattle.ordering.specs.Reordered.{occurs}
+use Rattle.points.specs.Points.{Segment, between, pointRows, segments, rowCount}
+use Rattle.barycentre.specs.Means.{reorder}
+use Rattle.ordering.specs.Order.{Direction, downward, upward, turned, startOrder, settleRow, downFrom, upFrom, pass, results}
+use Rattle.points.specs.Positions.{place}
+use Rattle.barycentre.specs.PointEnds.{endsAbove, endsBelow}
+use Rattle.ordering.specs.Fewest.{Drawing, drawn, fewest, passCount, bestOrder, drawingOf}
+use Rattle.buffers.specs.Lists.{Below, occurs}
 use Rattle.ordering.specs.Starts.{starts}
 use Rattle.ordering.specs.Laid.{Ranked}
-use Rattle.ordering.proofs.EdgeLaws.{dummyRows}
-use Rattle.ordering.proofs.PointLaws.{rows-are}
-use Rattle.ordering.proofs.OccursLaws.{row-below, flat-none}
-use Rattle.ordering.proofs.ReorderLaws.{reorder-occurs, reorder-length}
+use Rattle.points.proofs.EdgeLaws.{dummyRows}
+use Rattle.points.proofs.PointLaws.{rows-are}
+use Rattle.buffers.proofs.OccursLaws.{row-below, flat-none}
+use Rattle.barycentre.proofs.ReorderLaws.{reorder-occurs, reorder-length}
 use Rattle.ordering.proofs.StartLaws.{order-length, starts-length, starts-at}
 use Rattle.ordering.proofs.OnceLaws.{order-count}
 use Rattle.ordering.proofs.RankedLaws.{start-ranked}

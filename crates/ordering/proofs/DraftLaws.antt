@@ -5,30 +5,20 @@ use Prim.Native.Nat.{ℕ, zero, suc, _+_, _≤_, _<_}
 use native.Mathlib.Nat.{suc-ne-zero, suc-inj}
 use native.Mathlib.Omega.{arith}
 use lib.ListN.{length, take}
-use lib.Seq.{take-all, length-take-le}
+use lib.Seq.{length-take-le}
 use Rattle.graph.specs.Rows.{at}
-use Rattle.ordering.specs.Points.{Segment}
+use Rattle.points.specs.Points.{Segment}
 use Rattle.ordering.specs.Order.{Direction, downward, upward, turned, pass}
-use Rattle.ordering.specs.Crossings.{crossingPairs, crossings, Drawing, drawn, passCount}
-use Rattle.ordering.specs.Flat.{Below}
-use Rattle.ordering.specs.Laying.{uppers, lowers, Stored}
-use Rattle.ordering.specs.Laid.{segmentsIn, rowsIn, Laid, Ends, Standing, Changed}
-use Rattle.ordering.specs.Steps.{Counted}
-use Rattle.ordering.specs.Placing.{placedBy, Joined, Linked}
-use Rattle.ordering.specs.Drafts.{bestIn, Segmented, Prepared, Passable, Improving, Bettered, Keeping, kept, replaced, Held}
-use Rattle.ordering.proofs.WriteLaws.{written-take, written-length}
+use Rattle.crossings.specs.Crossings.{crossingPairs, crossings}
+use Rattle.ordering.specs.Fewest.{Drawing, drawn, passCount}
+use Rattle.points.specs.Laying.{uppers, lowers}
+use Rattle.ordering.specs.Laid.{segmentsIn, rowsIn, Laid, SegmentEnds, Standing, Changed}
+use Rattle.barycentre.specs.Steps.{Counted}
+use Rattle.crossings.specs.Placing.{placedBy, Joined, Linked}
+use Rattle.ordering.specs.Drafts.{bestIn, Segmented, Prepared, Passable, Improving, Bettered, Keeping, kept, replaced, DrawingHeld}
 use Rattle.ordering.proofs.LaidLaws.{points-end}
-use Rattle.ordering.proofs.PlacingLaws.{crossings-placed}
+use Rattle.crossings.proofs.PlacingLaws.{crossings-placed}
 use Rattle.ordering.proofs.FewestLaws.{rest-better, rest-kept, rest-end}
-
--- a list stored over one of its length takes its place
-pub copied-all : {old vs l : List ℕ} {p : ℕ} → length old ≡ length vs → Stored old 0 vs l p → l ≡ vs
-copied-all {old} {vs} {l} e s =
-    sym (take-all (length vs) l (omega (arith, ap length (s .holds), written-length old 0 vs)))
-    ∙ ap (take (length vs)) (s .holds) ∙ written-take old vs (omega arith)
-
-pub below-more : {n m : ℕ} {l : List ℕ} → Below n l → n ≤ m → Below m l
-below-more b h = record { below = λ i k. omega (arith, b .below i k) }
 
 -- ---- segments by the lists of their ends
 
@@ -44,7 +34,7 @@ lowers-are [] (b ∷ lower) e = absurd (suc-ne-zero (length lower) e)
 lowers-are (a ∷ upper) [] e = absurd (suc-ne-zero (length upper) (sym e))
 lowers-are (a ∷ upper) (b ∷ lower) e = ap (λ (l : List ℕ). b ∷ l) (lowers-are upper lower (suc-inj e))
 
-pub segmented-below : {row upper lower counts : List ℕ} → Ends (length row) upper lower counts → Segmented row upper lower
+pub segmented-below : {row upper lower counts : List ℕ} → SegmentEnds (length row) upper lower counts → Segmented row upper lower
 segmented-below e = record { both = sym (e .one-each); upper-in = e .near-in; lower-in = e .far-in; few = e .few }
 
 module _ {row upper lower : List ℕ} (g : Segmented row upper lower) where
@@ -86,7 +76,7 @@ module _ {row upper lower : List ℕ} (g : Segmented row upper lower) where
 -- ---- one pass
 
 -- what the pass asks for
-pub passable-stands : {near far counts row first order pos totals moved saved : List ℕ} → Ends (length row) near far counts
+pub passable-stands : {near far counts row first order pos totals moved saved : List ℕ} → SegmentEnds (length row) near far counts
     → Passable row first order pos totals moved saved → Standing near far counts (rowsIn first) order first pos totals moved
 passable-stands {near} {far} {counts} {row} {first} {order} {pos} {totals} {moved} e p =
     let q : at first (rowsIn first) ≡ length row = points-end row (rowsIn first) (p .o) order first (p .laid .ranked) in
@@ -94,14 +84,14 @@ passable-stands {near} {far} {counts} {row} {first} {order} {pos} {totals} {move
       ys = row;
       o = p .o;
       laid = p .laid;
-      ends = subst (λ (n : ℕ). Ends n near far counts) (sym q) e;
+      ends = subst (λ (n : ℕ). SegmentEnds n near far counts) (sym q) e;
       totals-long = omega (arith, q, p .totals-long);
       moved-long = omega (arith, q, p .moved-long);
     }
 
 -- what the next pass asks for: some order is in the lists still
 pub passed-stands : {near far counts row first order pos totals moved saved order′ pos′ totals′ moved′ : List ℕ} {change : List ℕ → List (List ℕ) → List (List ℕ)}
-    → Ends (length row) near far counts → Passable row first order pos totals moved saved → Changed (rowsIn first) change first order pos order′ pos′
+    → SegmentEnds (length row) near far counts → Passable row first order pos totals moved saved → Changed (rowsIn first) change first order pos order′ pos′
     → length totals′ ≡ length totals → length moved′ ≡ length moved → Standing near far counts (rowsIn first) order′ first pos′ totals′ moved′
 passed-stands {row = row} {order′ = order′} {change = change} e p c et em =
     passable-stands {saved = order′} e
@@ -191,14 +181,14 @@ module _ {row upper lower first order pos saved : List ℕ} {fewest : ℕ} where
       go (suc (suc left)) e i = record { left = left; makes = omega arith; improving = b .steps left i }
 
   -- no pass is left: the best so far is the drawing
-  pub turning-end : {k : ℕ} → 4 ≤ k → Turning row upper lower first k order pos saved fewest → Held (bestIn row upper lower first) saved fewest
+  pub turning-end : {k : ℕ} → 4 ≤ k → Turning row upper lower first k order pos saved fewest → DrawingHeld (bestIn row upper lower first) saved fewest
   unfolding drawn
   turning-end {k} h t = go (t .left) (omega (arith, t .makes)) (t .improving)
     where
-      go : (left : ℕ) → left ≤ 0 → Improving row upper lower first left downward order pos saved fewest → Held (bestIn row upper lower first) saved fewest
+      go : (left : ℕ) → left ≤ 0 → Improving row upper lower first left downward order pos saved fewest → DrawingHeld (bestIn row upper lower first) saved fewest
       go (suc left) e i = absurd (omega arith)
       go zero e i =
           let long : length (flatten (i .best)) ≡ length row =
           sym (ap length (i .best-flat)) ∙ length-take-le (length row) saved (omega (arith, i .same, i .laid .ranked .order-long)) in
-          subst (λ (d : Drawing). Held d saved fewest) (sym (i .rest ∙ rest-end row (segmentsIn upper lower) (i .best) downward (i .o)))
+          subst (λ (d : Drawing). DrawingHeld d saved fewest) (sym (i .rest ∙ rest-end row (segmentsIn upper lower) (i .best) downward (i .o)))
           (record { order-is = ap (λ (n : ℕ). take n saved) long ∙ i .best-flat; crossings-are = i .best-crossings })

@@ -10,21 +10,23 @@ use Rattle.table.specs.Limits.{maxPoints}
 use Rattle.graph.specs.declared.Edge.{Edge}
 use Rattle.graph.specs.Rows.{at}
 use Rattle.graph.specs.Search.{run}
-use Rattle.ordering.specs.Points.{Segment, between, pointRows, segments, rowCount}
+use Rattle.points.specs.Points.{Segment, between, pointRows, segments, rowCount}
 use Rattle.ordering.specs.Order.{downward, startOrder}
-use Rattle.ordering.specs.Crossings.{crossingPairs, Drawing, passCount, bestOrder, drawingOf}
-use Rattle.ordering.specs.Flat.{Below}
-use Rattle.ordering.specs.Bounds.{countLimit}
-use Rattle.ordering.specs.Laying.{edgesBetween, uppers, lowers, written, Stored}
+use Rattle.crossings.specs.Crossings.{crossingPairs}
+use Rattle.ordering.specs.Fewest.{Drawing, passCount, bestOrder, drawingOf}
+use Rattle.buffers.specs.Lists.{Below}
+use Rattle.barycentre.specs.Bounds.{countLimit}
+use Rattle.points.specs.Laying.{edgesBetween, uppers, lowers}
+use Rattle.buffers.specs.Written.{written, Stored}
 use Rattle.ordering.specs.Starts.{starts}
 use Rattle.ordering.specs.Laid.{segmentsIn, rowsIn, Ranked, Placeable, Positioned}
-use Rattle.ordering.specs.Placing.{placedBy}
+use Rattle.crossings.specs.Placing.{placedBy}
 use Rattle.ordering.specs.Drawing.{maxSegments, Drawable, DrawnIs}
-use Rattle.ordering.specs.Drafts.{Segmented, Sketched, Roomy, Improving, Held}
-use Rattle.ordering.proofs.WriteLaws.{written-length, written-take, written-at}
-use Rattle.ordering.proofs.EdgeLaws.{edges-length, dummyRows}
-use Rattle.ordering.proofs.PointLaws.{rows-are, points-length, segments-length}
-use Rattle.ordering.proofs.NeighbourLaws.{AllLead, chart-leads, uppers-in, lowers-in}
+use Rattle.ordering.specs.Drafts.{Segmented, Sketched, Roomy, Improving, DrawingHeld}
+use Rattle.buffers.proofs.WriteLaws.{written-length, written-take, written-at}
+use Rattle.points.proofs.EdgeLaws.{edges-length, dummyRows}
+use Rattle.points.proofs.PointLaws.{rows-are, points-length, segments-length}
+use Rattle.points.proofs.NeighbourLaws.{AllLead, chart-leads, uppers-in, lowers-in}
 use Rattle.ordering.proofs.StartLaws.{order-length, starts-length, starts-at}
 use Rattle.ordering.proofs.OnceLaws.{order-count}
 use Rattle.ordering.proofs.RankedLaws.{start-ranked}
@@ -106,7 +108,7 @@ module _ {row upper lower : List ℕ} {count : ℕ} (s : Sketched row upper lowe
       }
 
 -- the drawing in an array of that length
-pub held-drawn : (k n : ℕ) (row order : List ℕ) (segs : List Segment) (count : ℕ) → Held (bestOrder k row segs) order n → k ≡ count → length order ≡ maxPoints
+pub held-drawn : (k n : ℕ) (row order : List ℕ) (segs : List Segment) (count : ℕ) → DrawingHeld (bestOrder k row segs) order n → k ≡ count → length order ≡ maxPoints
     → DrawnIs (bestOrder count row segs) order n
 held-drawn k n row order segs count h e l =
     subst (λ (k : ℕ). DrawnIs (bestOrder k row segs) order n) e (record { order-is = h .order-is; crossings-are = h .crossings-are; long = l })

@@ -7,9 +7,10 @@ use native.Mathlib.Omega.{arith}
 use borrow.Author.Tests.{lt-ltb, le-ltb, ltb-true, ltb-false}
 use lib.Dec.{ltb}
 use lib.ListN.{length, getD, List·getD-map}
-use Rattle.ordering.specs.Points.{Segment}
+use Rattle.points.specs.Points.{Segment}
 use Rattle.ordering.specs.Order.{Direction, downward, turned, pass, results, startOrder}
-use Rattle.ordering.specs.Crossings.{crossings, Drawing, drawn, fewest, passCount, bestOrder}
+use Rattle.crossings.specs.Crossings.{crossings}
+use Rattle.ordering.specs.Fewest.{Drawing, drawn, fewest, passCount, bestOrder}
 use Rattle.ordering.specs.Drafts.{restFrom}
 
 -- The drawing d is the first with fewest crossings of the list ds: it is one of them, none has fewer, and each before it has more.

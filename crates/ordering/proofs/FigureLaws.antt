@@ -11,24 +11,23 @@ use lib.ListN.{length, getD, take}
 use lib.Seq.{getD-take}
 use Rattle.graph.specs.declared.Edge.{Edge}
 use Rattle.graph.specs.Rows.{at, noEdge, total}
-use Rattle.table.specs.declared.types.Refusal.{Refusal}
-use Rattle.table.specs.declared.types.Refusal.the-variants.{ManyPoints, ShortBuffer}
+use Rattle.outcome.specs.declared.Refusal.{Refusal}
+use Rattle.outcome.specs.declared.Refusal.the-variants.{ManyPoints, ShortBuffer}
 use Rattle.table.specs.Limits.{maxEdges, maxPoints, maxWeight}
-use Rattle.table.specs.Refusal.{Outcome, done, refused, thenDo, demand}
-use Rattle.table.specs.Table.{Contents, read}
+use Rattle.outcome.specs.Refusal.{Outcome, done, refused, thenDo, demand, numbersOf, refusalIn}
+use Rattle.outcome.proofs.ToldLaws.{number-some}
+use Rattle.table.specs.Table.{Contents, contentsOf, read}
 use Rattle.table.proofs.FairLaws.{read-fair}
 use Rattle.layering.specs.Calls.{rowsFound}
 use Rattle.layering.specs.Placed.{topRow, FairEdges}
 use Rattle.layering.proofs.PlaceLaws.{best-low}
 use Rattle.ordering.specs.declared.Figures.{Figures}
-use Rattle.ordering.specs.declared.ChartAnswer.{ChartAnswer}
-use Rattle.ordering.specs.declared.ChartAnswer.the-variants.{Drawn}
-use Rattle.ordering.specs.Points.{pointRows, segments, rowCount}
-use Rattle.ordering.specs.Crossings.{Drawing, bestOrder, drawingOf}
-use Rattle.ordering.specs.Calls.{Placing, Charted, ChartEnd, pointCount, unlessMany, chartOfTable, charted, chartOut, filled, chartEnd, chartCall, RowsBest, ChartBest}
+use Rattle.points.specs.Points.{pointRows, segments, rowCount}
+use Rattle.ordering.specs.Fewest.{bestOrder, drawingOf}
+use Rattle.ordering.specs.Calls.{Placing, Charted, ChartEnd, pointCount, unlessMany, chartOfTable, charted, chartOut, figuresNumbers, filled, chartEnd, chartCall, DrawnBest, ChartBest}
 use Rattle.ordering.specs.Charting.{Small}
-use Rattle.ordering.proofs.PointLaws.{points-length, segments-length}
-use Rattle.ordering.proofs.CrossingsLaws.{crossings-most}
+use Rattle.points.proofs.PointLaws.{points-length, segments-length}
+use Rattle.crossings.proofs.CrossingsLaws.{crossings-most}
 use Rattle.ordering.proofs.FewestLaws.{best-crossings}
 
 -- Each edge has one segment more than dummies, so there are fewer segments than points and edges together, and twice the crossings are
@@ -65,20 +64,31 @@ total-low (e ∷ edges) y w t h =
       mul-comm w t,
     )
 
-module _ (bytes rows order : List ℕ) (f : Figures) (buffer : List ℕ) where
-  never : {X : Type 0} {r : Refusal} → _≡_ {A = Outcome Figures} (refused r) (done f) → X
-  never e = let z : _≡_ {A = ℕ} 0 1 = cc in absurd (omega arith)
+-- figures are told one by one
+figures-same : (f g : Figures) → 0 ∷ figuresNumbers f ≡ 0 ∷ figuresNumbers g → f ≡ g
+figures-same f g e =
+    let a : f .points ≡ g .points = cc in
+    let b : f .total ≡ g .total = cc in
+    let c : f .crossings ≡ g .crossings = cc in
+    rw (a, b, c)
 
-  low : (t : Contents) → read bytes ≡ done t → RowsBest (length (t .steps)) (t .edges) (Drawn f) buffer
-      → (v : ℕ) → v < length (t .steps) → at (take (length (t .steps)) buffer) v ≤ topRow
+module _ (bytes rows order : List ℕ) (f : Figures) (buffer : List ℕ) where
+  -- what demand 3 says of the chart that has these figures
+  abbrev Best-of : Contents → Type 0
+  Best-of t = DrawnBest (length (t .steps)) (t .edges) (0 ∷ figuresNumbers f) buffer
+
+  never : {X : Type 0} (r : Refusal) → numbersOf r ≡ 0 ∷ figuresNumbers f → X
+  never r e = absurd (omega (arith, number-some r, ap refusalIn e))
+
+  low : (t : Contents) → read bytes ≡ done t → Best-of t → (v : ℕ) → v < length (t .steps) → at (take (length (t .steps)) buffer) v ≤ topRow
   low t r b v h =
       let fair = read-fair bytes r in
       let n = length (t .steps) in
       let edges : FairEdges n (t .edges) = record { few-steps = fair .few-steps; few-edges = fair .few-edges; each = fair .each-edge } in
-      rw (getD-take n buffer v 0 h) (best-low n (t .edges) buffer edges (b .0) v h)
+      rw (getD-take n buffer v 0 h) (best-low n (t .edges) buffer edges (b refl .0) v h)
 
   small : (t : Contents) (ys : List ℕ) → read bytes ≡ done t → length (pointRows ys (t .edges)) ≤ maxPoints
-      → charted ys (t .edges) .figures ≡ f → RowsBest (length (t .steps)) (t .edges) (Drawn f) buffer → Small f
+      → charted ys (t .edges) .figures ≡ f → Best-of t → Small f
   small t ys r p e b =
       let fair = read-fair bytes r in
       let n = length (t .steps) in
@@ -90,7 +100,7 @@ module _ (bytes rows order : List ℕ) (f : Figures) (buffer : List ℕ) where
         low-total =
             omega (
               arith,
-              b .1,
+              b refl .1,
               total-low (t .edges) (at (take n buffer)) maxWeight topRow (λ i h. (fair .each-edge i h .weight-low, low t r b (getD (t .edges) i noEdge .to) (fair .each-edge i h .to-in))),
               mul-le-mul-left (maxWeight * topRow) (fair .few-edges),
               mul-comm (length (t .edges)) (maxWeight * topRow),
@@ -100,32 +110,31 @@ module _ (bytes rows order : List ℕ) (f : Figures) (buffer : List ℕ) where
 
   end : (t : Contents) (ys : List ℕ) (b : Bool) → read bytes ≡ done t → length (pointRows ys (t .edges)) ≤ maxPoints
       → cond {A = ChartEnd} b
-      (record { answer = done (charted ys (t .edges) .figures); rows = filled ys rows; order = filled (charted ys (t .edges) .order) order })
-      (record { answer = refused ShortBuffer; rows = rows; order = order }) .answer ≡ done f
-      → RowsBest (length (t .steps)) (t .edges) (Drawn f) buffer → Small f
-  end t ys true r p e b = let k : charted ys (t .edges) .figures ≡ f = cc in small t ys r p k b
-  end t ys false r p e b = never e
+      (record { numbers = 0 ∷ figuresNumbers (charted ys (t .edges) .figures); rows = filled ys rows; order = filled (charted ys (t .edges) .order) order })
+      (record { numbers = numbersOf ShortBuffer; rows = rows; order = order }) .numbers ≡ 0 ∷ figuresNumbers f
+      → Best-of t → Small f
+  end t ys true r p e b = small t ys r p (figures-same (charted ys (t .edges) .figures) f e) b
+  end t ys false r p e b = never ShortBuffer e
 
   -- a chart that is handed out has small figures
-  pub figures-small : chartCall bytes rows order .answer ≡ done f → ChartBest (read bytes) (Drawn f) buffer → Small f
+  pub figures-small : chartCall bytes rows order .numbers ≡ 0 ∷ figuresNumbers f → ChartBest bytes (0 ∷ figuresNumbers f) buffer → Small f
   unfolding chartCall chartOfTable
   figures-small = go (read bytes) refl
     where
       many : (t : Contents) (ys : List ℕ) (b : Bool) → read bytes ≡ done t → leb (pointCount ys (t .edges)) maxPoints ≡ b
-          → chartEnd (chartOut (demand b ManyPoints (done (record { contents = t; rows = ys })))) rows order .answer ≡ done f
-          → RowsBest (length (t .steps)) (t .edges) (Drawn f) buffer → Small f
+          → chartEnd (chartOut (demand b ManyPoints (done (record { contents = t; rows = ys })))) rows order .numbers ≡ 0 ∷ figuresNumbers f
+          → Best-of t → Small f
       many t ys true r p e b =
           end t ys (leb (length ys) (length rows) && leb (length (charted ys (t .edges) .order)) (length order)) r (leb-true _ _ p) e b
-      many t ys false r p e b = never e
+      many t ys false r p e b = never ManyPoints e
 
       found : (t : Contents) (o : Outcome (List ℕ)) → read bytes ≡ done t
-          → chartEnd (chartOut (thenDo o (λ ys. unlessMany t ys))) rows order .answer ≡ done f
-          → RowsBest (length (t .steps)) (t .edges) (Drawn f) buffer → Small f
+          → chartEnd (chartOut (thenDo o (λ ys. unlessMany t ys))) rows order .numbers ≡ 0 ∷ figuresNumbers f → Best-of t → Small f
       found t (done ys) r e b = many t ys (leb (pointCount ys (t .edges)) maxPoints) r refl e b
-      found t (refused g) r e b = never e
+      found t (refused g) r e b = never g e
 
       go : (o : Outcome Contents) → read bytes ≡ o
-          → chartEnd (chartOut (thenDo o (λ t. thenDo (rowsFound (length (t .steps)) (t .edges)) (λ ys. unlessMany t ys)))) rows order .answer ≡ done f
-          → ChartBest o (Drawn f) buffer → Small f
+          → chartEnd (chartOut (thenDo o (λ t. thenDo (rowsFound (length (t .steps)) (t .edges)) (λ ys. unlessMany t ys)))) rows order .numbers
+          ≡ 0 ∷ figuresNumbers f → Best-of (contentsOf o) → Small f
       go (done t) r e b = found t (rowsFound (length (t .steps)) (t .edges)) r e b
-      go (refused g) r e b = never e
+      go (refused g) r e b = never g e

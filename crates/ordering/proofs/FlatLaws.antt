@@ -1,11 +1,11 @@
 -- Rows one behind the other in one list, with a rest behind them: a row is a part of it, and another row put there moves no start.
-use mathlib.Core.Path.{_≡_, refl, sym, ap}
+use mathlib.Core.Path.{_≡_, refl, ap}
 use mathlib.Core.List.{List, [], _∷_, _++_, flatten, append-assoc}
-use Prim.Native.Nat.{ℕ, zero, suc, _+_, _-_, _≤_, _<_}
-use native.Mathlib.Nat.{not-suc-le-zero, le-of-suc-le-suc, sub-zero, zero-sub, suc-sub-suc}
+use Prim.Native.Nat.{ℕ, zero, suc, _+_, _≤_, _<_}
+use native.Mathlib.Nat.{not-suc-le-zero, le-of-suc-le-suc}
 use native.Mathlib.Omega.{arith}
 use lib.ListN.{length, getD, take, drop, set, length-append}
-use lib.Seq.{take-append-add, drop-append-add, drop-append-seam, take-append-seam, slice, take-nil}
+use lib.Seq.{take-append-add, drop-append-add, drop-append-seam, take-append-seam}
 use Rattle.ordering.specs.Starts.{start}
 
 -- the next row starts behind a row
@@ -63,10 +63,3 @@ unfolding start flatten
 start-below [] r = omega arith
 start-below (row ∷ o) zero = omega arith
 start-below (row ∷ o) (suc r) = omega (arith, start-below o r, length-append row (flatten o))
-
--- a part of a list by its start and its end is the part by its start and its length
-pub take-slice : (a b : ℕ) (l : List ℕ) → slice a b l ≡ take (b - a) (drop a l)
-take-slice zero b l = rw (sub-zero b)
-take-slice (suc a) zero l = rw (zero-sub (suc a))
-take-slice (suc a) (suc b) [] = sym (take-nil (suc b - suc a))
-take-slice (suc a) (suc b) (x ∷ l) = rw (suc-sub-suc b a) (take-slice a b l)

@@ -11,14 +11,14 @@ use lib.ListN.{length, getD, take, drop, set, length-set, length-append, take-ap
 use lib.Seq.{slice, length-take-le, take-at, getD-set-same, getD-set-other, getD-take}
 use borrow.Author.Tests.{eq-eqb, ne-eqb}
 use Rattle.graph.specs.Rows.{at}
-use Rattle.ordering.specs.Order.{position}
-use Rattle.ordering.specs.Flat.{Below}
+use Rattle.points.specs.Positions.{position}
+use Rattle.buffers.specs.Lists.{Below, occurs}
 use Rattle.ordering.specs.Starts.{start}
-use Rattle.ordering.specs.Reordered.{occurs}
-use Rattle.ordering.specs.Bounds.{countLimit}
+use Rattle.barycentre.specs.Bounds.{countLimit}
 use Rattle.ordering.specs.Laid.{stored, Ranked, Laid}
-use Rattle.ordering.proofs.OccursLaws.{row-below, flat-none}
-use Rattle.ordering.proofs.FlatLaws.{start-suc, start-end, start-set, start-below, flat-row, flat-set, take-slice}
+use Rattle.buffers.proofs.OccursLaws.{row-below, flat-none}
+use Rattle.ordering.proofs.FlatLaws.{start-suc, start-end, start-set, start-below, flat-row, flat-set}
+use Rattle.buffers.proofs.ListLaws.{take-slice}
 use Rattle.ordering.proofs.PlaceLaws.{stored-length, stored-other, stored-own, stored-below, place-set}
 
 -- the row that starts at first[r], of a flat order

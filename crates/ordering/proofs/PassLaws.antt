@@ -9,10 +9,11 @@ use native.Mathlib.Omega.{arith}
 use lib.Dec.{eqb}
 use lib.ListN.{length}
 use Rattle.graph.specs.Rows.{at}
-use Rattle.ordering.specs.Points.{Segment}
-use Rattle.ordering.specs.Order.{ends, endsAbove, endsBelow, settleRow, downFrom, upFrom, pass, downward, upward}
-use Rattle.ordering.specs.Flat.{endsIn}
-use Rattle.ordering.specs.Laid.{segmentsIn, Laid, Ends, Standing, Changed}
+use Rattle.points.specs.Points.{Segment}
+use Rattle.barycentre.specs.PointEnds.{ends, endsAbove, endsBelow}
+use Rattle.ordering.specs.Order.{settleRow, downFrom, upFrom, pass, downward, upward}
+use Rattle.barycentre.specs.Flat.{endsIn}
+use Rattle.ordering.specs.Laid.{segmentsIn, Laid, SegmentEnds, Standing, Changed}
 
 -- ---- segments by the lists of their ends: a list of segments is the segments of its ends, and a point has the same ends either way
 
@@ -167,7 +168,7 @@ module _ {count : ℕ} {upper lower first order₀ pos₀ : List ℕ} where
 -- After a pass the lists are ready for another one, in either direction.
 pub stands-on : {near far counts order first pos totals moved near′ far′ counts′ order′ pos′ totals′ moved′ : List ℕ} {count : ℕ}
     {change : List ℕ → List (List ℕ) → List (List ℕ)} → Standing near far counts count order first pos totals moved → Changed count change first order pos order′ pos′
-    → Ends (at first count) near′ far′ counts′ → length totals′ ≡ length totals → length moved′ ≡ length moved
+    → SegmentEnds (at first count) near′ far′ counts′ → length totals′ ≡ length totals → length moved′ ≡ length moved
     → Standing near′ far′ counts′ count order′ first pos′ totals′ moved′
 stands-on {change = change} s c e et em =
     record {

@@ -3,34 +3,21 @@ use mathlib.Core.Path.{_≡_, refl, sym, ap, _∙_}
 use mathlib.Core.Logic.{_≢_}
 use mathlib.Core.Bool.{Bool, true, false, cond}
 use mathlib.Core.List.{List, [], _∷_}
-use Prim.Native.Nat.{ℕ, zero, suc, _+_, _-_, _≤_, _<_, suc-le-suc}
+use Prim.Native.Nat.{ℕ, suc, _+_, _-_, _≤_, _<_}
 use native.Mathlib.Decide.{ℕ-discrete}
-use native.Mathlib.Nat.{zero-lt-suc}
 use native.Mathlib.Numerals.{add-one}
 use native.Mathlib.Omega.{arith}
 use lib.Dec.{eqb, ltb}
-use lib.ListN.{length, getD, set, take, length-set}
-use lib.Seq.{getD-set-same, getD-set-other, slice, slice-cons, slice-empty, length-slice, getD-drop, getD-take}
+use lib.ListN.{length, getD, set, length-set}
+use lib.Seq.{getD-set-same, getD-set-other, slice, slice-cons, slice-empty}
 use borrow.Author.Tests.{eqb-true, eqb-false, ltb-true, ltb-false}
 use Rattle.graph.specs.Rows.{at}
-use Rattle.ordering.specs.Order.{position, place}
-use Rattle.ordering.specs.Flat.{Below}
-use Rattle.ordering.specs.Reordered.{occurs}
+use Rattle.buffers.proofs.ListLaws.{at-low, set-low}
+use Rattle.points.specs.Positions.{position, place}
+use Rattle.buffers.specs.Lists.{Below, occurs}
 use Rattle.ordering.specs.Laid.{stored}
 
 -- ---- storing
-
-low-all : (n : ℕ) (pos : List ℕ) → 0 < n → ((k : ℕ) → k < length pos → at pos k < n) → (k : ℕ) → at pos k < n
-low-all n [] z h k = z
-low-all n (x ∷ pos) z h zero = h zero (zero-lt-suc (length pos))
-low-all n (x ∷ pos) z h (suc k) = low-all n pos z (λ j b. h (suc j) (suc-le-suc b)) k
-
-set-low : (n : ℕ) (pos : List ℕ) (p v : ℕ) → v < n → ((k : ℕ) → at pos k < n) → (k : ℕ) → at (set pos p v) k < n
-set-low n [] p v l h k = h k
-set-low n (x ∷ pos) zero v l h zero = l
-set-low n (x ∷ pos) zero v l h (suc k) = h (suc k)
-set-low n (x ∷ pos) (suc p) v l h zero = h zero
-set-low n (x ∷ pos) (suc p) v l h (suc k) = set-low n pos p v l (λ j. h (suc j)) k
 
 pub stored-length : (i : ℕ) (row pos : List ℕ) → length (stored i row pos) ≡ length pos
 unfolding stored
@@ -75,16 +62,8 @@ stored-below n row pos l h =
     record { below = λ k b. go (ltb 0 n) refl k b }
   where
     go : (t : Bool) → ltb 0 n ≡ t → (k : ℕ) → k < length (stored 0 row pos) → at (stored 0 row pos) k < n
-    go true e k b = stored-low n 0 row pos (omega arith) (low-all n pos (ltb-true 0 n e) (h .below)) k
+    go true e k b = stored-low n 0 row pos (omega arith) (at-low n pos (ltb-true 0 n e) h) k
     go false e k b = absurd (omega (arith, h .below k (omega (arith, stored-length 0 row pos)), ltb-false 0 n e))
-
--- what stands in a part is low where the part is
-pub slice-below : (n : ℕ) (order : List ℕ) (a b i : ℕ) → Below n (slice a b order) → a ≤ i → i < b → b ≤ length order → at order i < n
-slice-below n order a b i h l m k =
-    let e : a + (i - a) ≡ i = omega arith in
-    let f : at (slice a b order) (i - a) ≡ at order i =
-    getD-drop a (take b order) (i - a) 0 ∙ ap (λ (j : ℕ). at (take b order) j) e ∙ getD-take b order i 0 m in
-    omega (arith, h .below (i - a) (omega (arith, length-slice a b order k)))
 
 -- A row is being stored: what is left to store, from the point at i on, gives the whole.
 pub record Storing (order : List ℕ) (a b : ℕ) (pos₀ : List ℕ) (i : ℕ) (pos : List ℕ) : Type 0 where

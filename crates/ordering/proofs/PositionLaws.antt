@@ -10,16 +10,15 @@ use lib.ListN.{length, getD, List·getD-eq-default}
 use lib.Seq.{slice}
 use borrow.Author.Tests.{eq-eqb, ne-eqb, ltb-true, ltb-false}
 use Rattle.graph.specs.Rows.{at}
-use Rattle.ordering.specs.Order.{position, place}
-use Rattle.ordering.specs.Flat.{Below}
-use Rattle.ordering.specs.Bounds.{countLimit}
-use Rattle.ordering.specs.Reordered.{occurs}
+use Rattle.points.specs.Positions.{position, place}
+use Rattle.buffers.specs.Lists.{Below, occurs}
+use Rattle.barycentre.specs.Bounds.{countLimit}
 use Rattle.ordering.specs.Laid.{stored, Ranked, Placeable, Positioned}
 use Rattle.ordering.proofs.PlaceLaws.{stored-other, stored-own, stored-below}
 use Rattle.ordering.proofs.LaidLaws.{points-end, row-slice, row-short, row-rises, row-inside, points-below}
 
 -- the points of the rows before row r have their positions
-pub record Placed (count : ℕ) (order first : List ℕ) (r : ℕ) (pos : List ℕ) : Type 0 where
+pub record PlacedRows (count : ℕ) (order first : List ℕ) (r : ℕ) (pos : List ℕ) : Type 0 where
   pub places : (ys : List ℕ) (o : List (List ℕ)) → Ranked ys count o order first → (p : ℕ) → p < length ys → at ys p < r → at pos p ≡ place ys o p
   pub low : Below countLimit pos
 
@@ -40,12 +39,12 @@ module _ {count : ℕ} {order first pos₀ : List ℕ} (s : Placeable count orde
   points-same : (ys : List ℕ) (o : List (List ℕ)) → Ranked ys count o order first → length ys ≡ length (s .ys)
   points-same ys o h = sym (points-end ys count o order first h) ∙ points-end (s .ys) count (s .o) order first (s .ranked)
 
-  pub placed-start : Placed count order first 0 pos₀
+  pub placed-start : PlacedRows count order first 0 pos₀
   placed-start = record { places = λ ys o h p l k. absurd (omega arith); low = s .low }
 
   -- Row r is stored: its points get their positions, and no other point stands in it.
-  pub placed-turn : {r : ℕ} {pos : List ℕ} → r < count → length pos ≡ length pos₀ → Placed count order first r pos
-      → {pos′ : List ℕ} → pos′ ≡ stored 0 (slice (at first r) (at first (r + 1)) order) pos → Placed count order first (r + 1) pos′
+  pub placed-turn : {r : ℕ} {pos : List ℕ} → r < count → length pos ≡ length pos₀ → PlacedRows count order first r pos
+      → {pos′ : List ℕ} → pos′ ≡ stored 0 (slice (at first r) (at first (r + 1)) order) pos → PlacedRows count order first (r + 1) pos′
   unfolding place
   placed-turn {r} {pos} l long h {pos′} e = record { places = places; low = low }
     where
@@ -70,7 +69,7 @@ module _ {count : ℕ} {order first pos₀ : List ℕ} (s : Placeable count orde
           subst (Below countLimit) (sym (is (s .ys) (s .o) (s .ranked)))
           (stored-below countLimit (getD (s .o) r []) pos (omega (arith, row-short (s .ys) count (s .o) order first (s .ranked) r l, s .few)) (h .low))
 
-  pub placed-end : {r : ℕ} {pos : List ℕ} → count ≤ r → length pos ≡ length pos₀ → Placed count order first r pos → Positioned count order first pos
+  pub placed-end : {r : ℕ} {pos : List ℕ} → count ≤ r → length pos ≡ length pos₀ → PlacedRows count order first r pos → Positioned count order first pos
   placed-end {r} {pos} l long h =
       record {
         laid = λ ys o k.

@@ -13,8 +13,7 @@ use borrow.Author.Tests.{eq-eqb, ne-eqb}
 use Rattle.graph.specs.Rows.{at}
 use Rattle.graph.specs.Search.{run}
 use Rattle.ordering.specs.Order.{pointsIn, startOrder}
-use Rattle.ordering.specs.Flat.{Below}
-use Rattle.ordering.specs.Reordered.{occurs}
+use Rattle.buffers.specs.Lists.{Below, occurs}
 use Rattle.ordering.specs.Starts.{start}
 use Rattle.ordering.specs.Laid.{Ranked}
 

@@ -1,13 +1,17 @@
 -- The sample of document 01, computed from the definitions: its order and its crossings.
 use mathlib.Core.Path.{_≡_, refl}
-use mathlib.Core.List.{List, [], _∷_}
+use mathlib.Core.List.{[], _∷_}
 use Prim.Native.Nat.{ℕ}
 use Rattle.graph.specs.declared.Edge.{Edge}
 use Rattle.graph.specs.Search.{run}
-use Rattle.ordering.specs.Points.{dummies, pointRows, chain, segmentsFrom, segments, rowCount}
-use Rattle.ordering.specs.Means.{sum, meanOf, insert, sortOnto, moving, fill, reorder}
-use Rattle.ordering.specs.Order.{pointsIn, startOrder, position, place, ends, settleRow, downFrom, upFrom, results}
-use Rattle.ordering.specs.Crossings.{crossingsWith, crossingPairs, crossings, Drawing, drawn, fewest, bestOrder, drawingOf}
+use Rattle.points.specs.Points.{dummies, pointRows, chain, segmentsFrom, segments, rowCount}
+use Rattle.buffers.specs.Lists.{sum}
+use Rattle.barycentre.specs.Means.{meanOf, insert, sortOnto, moving, fill, reorder}
+use Rattle.ordering.specs.Order.{pointsIn, startOrder, settleRow, downFrom, upFrom, results}
+use Rattle.points.specs.Positions.{position, place}
+use Rattle.barycentre.specs.PointEnds.{ends}
+use Rattle.crossings.specs.Crossings.{crossingsWith, crossingPairs, crossings}
+use Rattle.ordering.specs.Fewest.{drawn, fewest, bestOrder, drawingOf}
 
 abbrev edge : ℕ → ℕ → ℕ → ℕ → Edge
 edge a b g w = record { from = a; to = b; gap = g; weight = w }

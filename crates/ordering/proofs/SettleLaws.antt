@@ -6,14 +6,16 @@ use native.Mathlib.Omega.{arith}
 use lib.ListN.{length, getD, set}
 use lib.Seq.{slice, getD-set-same}
 use Rattle.graph.specs.Rows.{at}
-use Rattle.ordering.specs.Means.{reorder}
-use Rattle.ordering.specs.Order.{place, settleRow}
-use Rattle.ordering.specs.Flat.{endsIn, arrangedBy, Below, Totals}
-use Rattle.ordering.specs.Bounds.{Summable, Ready}
-use Rattle.ordering.specs.Laid.{stored, Ranked, Laid, Ends, Standing, Changed}
-use Rattle.ordering.proofs.MeansLaws.{totals-low, counts-low}
-use Rattle.ordering.proofs.ReorderLaws.{reorder-occurs, reorder-length}
-use Rattle.ordering.proofs.EndsLaws.{reorder-agree, arranged-is}
+use Rattle.barycentre.specs.Means.{reorder}
+use Rattle.points.specs.Positions.{place}
+use Rattle.ordering.specs.Order.{settleRow}
+use Rattle.barycentre.specs.Flat.{endsIn, arrangedBy, Totals}
+use Rattle.buffers.specs.Lists.{Below}
+use Rattle.barycentre.specs.Bounds.{EndsSummable, Ready}
+use Rattle.ordering.specs.Laid.{stored, Ranked, Laid, SegmentEnds, Standing, Changed}
+use Rattle.barycentre.proofs.MeansLaws.{totals-low, counts-low}
+use Rattle.barycentre.proofs.ReorderLaws.{reorder-occurs, reorder-length}
+use Rattle.barycentre.proofs.EndsLaws.{reorder-agree, arranged-is}
 use Rattle.ordering.proofs.LaidLaws.{rowAt, withRow, points-end, points-below, row-part, row-slice, row-rises, row-inside, row-short, put-ranked, put-laid}
 
 wider : {n m : ℕ} {l : List ℕ} → n ≤ m → Below n l → Below m l
@@ -25,7 +27,7 @@ settled near far ys o r = reorder (endsIn near far) (place ys o) (getD o r [])
 
 -- Row r as the code puts it in order is the settled row: the positions in `pos` are the places of the points, and the ends are points.
 -- It has the points of the old row, so that the lists are those of the settled order once its positions are stored.
-module _ {near far counts first order pos totals : List ℕ} {count r : ℕ} (ends : Ends (at first count) near far counts)
+module _ {near far counts first order pos totals : List ℕ} {count r : ℕ} (ends : SegmentEnds (at first count) near far counts)
     (sums : Totals near far pos totals) (long : at first count ≤ length totals) (l : r < count) where
   arranged-settled : (ys : List ℕ) (o : List (List ℕ)) → Laid ys count o order first pos → arrangedBy totals counts (rowAt first order r) ≡ settled near far ys o r
   arranged-settled ys o h =
@@ -61,7 +63,7 @@ module _ {near far counts order first pos totals moved : List ℕ} {count : ℕ}
   end-is : at first count ≡ length (s .ys)
   end-is = points-end (s .ys) count (s .o) order first (s .laid .ranked)
 
-  pub summable : Summable (length totals) near far pos
+  pub summable : EndsSummable (length totals) near far pos
   summable =
       record {
         near-in = wider (s .totals-long) (s .ends .near-in);

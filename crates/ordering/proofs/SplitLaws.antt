@@ -1,75 +1,45 @@
 -- A loop that copies the ends of edges to two arrays: it starts with none, a turn adds an edge, and its end has them all.
-use mathlib.Core.Path.{_≡_, refl, sym, ap, _∙_}
-use mathlib.Core.List.{List, map}
+use mathlib.Core.Path.{_≡_, refl, sym}
+use mathlib.Core.List.{List}
 use Prim.Native.Nat.{ℕ, _+_, _≤_, _<_}
 use native.Mathlib.Omega.{arith}
-use lib.ListN.{length, getD, take, replicate, set, length-set, length-replicate, length-map, List·getD-map}
-use lib.Seq.{ext-getD, getD-take, length-take-le}
+use lib.ListN.{length, getD, take, replicate, set}
+use lib.Seq.{length-take-le}
 use Rattle.graph.specs.declared.Edge.{Edge}
-use Rattle.graph.specs.Rows.{at, noEdge}
+use Rattle.graph.specs.Rows.{noEdge}
 use Rattle.table.specs.Limits.{maxEdges}
-use Rattle.layering.proofs.SetLaws.{set-cases}
+use Rattle.buffers.proofs.CopyLaws.{Copied, copied-none, copied-more, copied-map}
 use Rattle.ordering.specs.Charting.{Split}
 
--- the first i entries of an array are what f makes of the first i edges
-pub record Copied (f : Edge → ℕ) (edges : List Edge) (i : ℕ) (xs : List ℕ) : Type 0 where
-  pub long : length xs ≡ maxEdges
-  pub entry : (k : ℕ) → k < i → at xs k ≡ f (getD edges k noEdge)
+abbrev pub from-of : List Edge → ℕ → ℕ
+from-of edges k = getD edges k noEdge .from
 
-module _ (f : Edge → ℕ) (edges : List Edge) where
-  copied-none : Copied f edges 0 (replicate maxEdges 0)
-  copied-none = record { long = length-replicate {A = ℕ} maxEdges 0; entry = λ k h. absurd (omega arith) }
-
-  copied-more : (i : ℕ) (xs : List ℕ) → i < maxEdges → Copied f edges i xs → Copied f edges (i + 1) (set xs i (f (getD edges i noEdge)))
-  copied-more i xs h c =
-      record {
-        long = length-set xs i (f (getD edges i noEdge)) ∙ c .long;
-        entry =
-            λ k l.
-            set-cases (λ (x : ℕ). x ≡ f (getD edges k noEdge)) xs i (f (getD edges i noEdge)) k (omega (arith, c .long))
-            (λ e. ap (λ j. f (getD edges j noEdge)) e) (λ d. c .entry k (omega arith));
-      }
-
-  -- f of no edge is 0, as is what stands past the end of a list
-  copied-all : f noEdge ≡ 0 → (m i : ℕ) (xs : List ℕ) → Copied f edges i xs → m ≤ i → m ≤ maxEdges → length edges ≡ maxEdges
-      → take m xs ≡ map f (take m edges)
-  copied-all z m i xs c l few long = ext-getD 0 (take m xs) (map f (take m edges)) same-length same-at
-    where
-      count : length (take m xs) ≡ m
-      count = length-take-le m xs (omega (arith, c .long))
-
-      same-length : length (take m xs) ≡ length (map f (take m edges))
-      same-length = count ∙ sym (length-map (take m edges) f ∙ length-take-le m edges (omega arith))
-
-      same-at : (k : ℕ) → k < length (take m xs) → at (take m xs) k ≡ at (map f (take m edges)) k
-      same-at k h =
-          let j : k < m = omega (arith, count) in
-          getD-take m xs k 0 j ∙ c .entry k (omega arith)
-          ∙ sym (ap (λ d. getD (map f (take m edges)) k d) (sym z) ∙ List·getD-map f (take m edges) k noEdge ∙ ap f (getD-take m edges k noEdge j))
+abbrev pub to-of : List Edge → ℕ → ℕ
+to-of edges k = getD edges k noEdge .to
 
 -- the first i edges stand in the arrays
 pub record Splitting (edges : List Edge) (i : ℕ) (from to : List ℕ) : Type 0 where
-  pub tails : Copied (λ (e : Edge). e .from) edges i from
-  pub heads : Copied (λ (e : Edge). e .to) edges i to
+  pub tails : Copied maxEdges (from-of edges) i from
+  pub heads : Copied maxEdges (to-of edges) i to
 
 module _ (edges : List Edge) where
   pub splitting-none : Splitting edges 0 (replicate maxEdges 0) (replicate maxEdges 0)
-  splitting-none = record { tails = copied-none (λ (e : Edge). e .from) edges; heads = copied-none (λ (e : Edge). e .to) edges }
+  splitting-none = record { tails = copied-none maxEdges (from-of edges); heads = copied-none maxEdges (to-of edges) }
 
   module _ (i : ℕ) (from to : List ℕ) (s : Splitting edges i from to) where
     pub splitting-more : i < maxEdges
         → Splitting edges (i + 1) (set from i (getD edges i noEdge .from)) (set to i (getD edges i noEdge .to))
     splitting-more h =
         record {
-          tails = copied-more (λ (e : Edge). e .from) edges i from h (s .tails);
-          heads = copied-more (λ (e : Edge). e .to) edges i to h (s .heads);
+          tails = copied-more maxEdges (from-of edges) i from h (s .tails);
+          heads = copied-more maxEdges (to-of edges) i to h (s .heads);
         }
 
     pub splitting-all : (m : ℕ) → m ≤ i → m ≤ maxEdges → length edges ≡ maxEdges → Split m edges from to
     splitting-all m l few long =
         record {
-          tails = copied-all (λ (e : Edge). e .from) edges refl m i from (s .tails) l few long;
-          heads = copied-all (λ (e : Edge). e .to) edges refl m i to (s .heads) l few long;
+          tails = copied-map noEdge (λ (e : Edge). e .from) refl maxEdges edges m i from (s .tails) l few (omega arith);
+          heads = copied-map noEdge (λ (e : Edge). e .to) refl maxEdges edges m i to (s .heads) l few (omega arith);
           from-long = s .tails .long;
           to-long = s .heads .long;
         }

@@ -1,22 +1,27 @@
 -- The whole chart: what the call answers, and what its two buffers hold at its end.
 use mathlib.Core.Path.{_≡_}
 use mathlib.Core.Bool.{_&&_, cond}
-use mathlib.Core.List.{List, _++_, flatten}
+use mathlib.Core.List.{List, [], _∷_, _++_, flatten}
 use Prim.Native.Nat.{ℕ}
 use lib.Dec.{leb}
-use lib.ListN.{length, take, drop}
+use lib.ListN.{length, getD, take, drop}
 use Rattle.graph.specs.declared.Edge.{Edge}
 use Rattle.graph.specs.Rows.{at, total, Best}
-use Rattle.table.specs.declared.types.Refusal.the-variants.{ManyPoints, ShortBuffer}
-use Rattle.table.specs.Limits.{maxPoints}
-use Rattle.table.specs.Refusal.{Outcome, done, refused, thenDo, demand}
-use Rattle.table.specs.Table.{Contents, read}
+use Rattle.outcome.specs.declared.Refusal.the-variants.{ManyPoints, ShortBuffer}
+use Rattle.table.specs.declared.types.Table.{Table}
+use Rattle.table.specs.Limits.{maxSteps, maxPoints}
+use Rattle.outcome.specs.Refusal.{Outcome, done, refused, thenDo, demand, numbersOf, told, bare, verdictNumbers, refusalIn}
+use Rattle.table.specs.Table.{Contents, contentsOf, read}
+use Rattle.table.specs.Calls.{readCall}
+use Rattle.buffers.specs.Padded.{padded}
 use Rattle.layering.specs.Calls.{rowsFound}
 use Rattle.ordering.specs.declared.Figures.{Figures}
 use Rattle.ordering.specs.declared.ChartAnswer.{ChartAnswer}
 use Rattle.ordering.specs.declared.ChartAnswer.the-variants.{Drawn, Refused}
-use Rattle.ordering.specs.Points.{pointRows}
-use Rattle.ordering.specs.Crossings.{drawingOf}
+use Rattle.ordering.specs.declared.types.ChartFound.{ChartFound}
+use Rattle.ordering.specs.declared.types.TableChart.{TableChart}
+use Rattle.points.specs.Points.{pointRows, rowCount}
+use Rattle.ordering.specs.Fewest.{drawingOf}
 
 -- ---- the chart of a table
 
@@ -65,9 +70,13 @@ chartOut o = thenDo o λ p. done (charted (p .rows) (p .contents .edges))
 
 -- ---- the buffers
 
--- a call's answer, and the buffers at its end
+-- the figures in the order in which they are told
+abbrev pub figuresNumbers : Figures → List ℕ
+figuresNumbers f = f .points ∷ f .total ∷ f .crossings ∷ []
+
+-- a call's answer in numbers, and the buffers at its end
 pub record ChartEnd : Type 0 where
-  pub answer : Outcome Figures
+  pub numbers : List ℕ
   pub rows : List ℕ
   pub order : List ℕ
 
@@ -77,29 +86,86 @@ filled values old = values ++ drop (length values) old
 
 -- A buffer with fewer entries than it is to get is refused (13), after every other fault, and a refusal leaves both as they were.
 abbrev pub chartEnd : Outcome Charted → List ℕ → List ℕ → ChartEnd
-chartEnd (refused r) rows order = record { answer = refused r; rows = rows; order = order }
+chartEnd (refused r) rows order = record { numbers = numbersOf r; rows = rows; order = order }
 chartEnd (done c) rows order =
     cond (leb (length (c .rows)) (length rows) && leb (length (c .order)) (length order))
-    (record { answer = done (c .figures); rows = filled (c .rows) rows; order = filled (c .order) order })
-    (record { answer = refused ShortBuffer; rows = rows; order = order })
+    (record { numbers = 0 ∷ figuresNumbers (c .figures); rows = filled (c .rows) rows; order = filled (c .order) order })
+    (record { numbers = numbersOf ShortBuffer; rows = rows; order = order })
 
 unfoldable pub chartCall : List ℕ → List ℕ → List ℕ → ChartEnd
 chartCall bytes rows order = chartEnd (chartOut (chartOfTable bytes)) rows order
 
--- what the code answers
-abbrev pub chartAnswer : Outcome Figures → ChartAnswer
-chartAnswer (done f) = Drawn f
-chartAnswer (refused r) = Refused r
+-- what the code answers, in numbers
+abbrev pub chartNumbers : ChartAnswer → List ℕ
+chartNumbers (Drawn f) = 0 ∷ figuresNumbers f
+chartNumbers (Refused r) = numbersOf r
 
 -- ---- demand 3
 
--- Where the call is not refused, the first entries of the buffer for rows, one a step, are the best rows, and the total handed out is
--- theirs.
-abbrev pub RowsBest : ℕ → List Edge → ChartAnswer → List ℕ → Type 0
-RowsBest n edges (Drawn f) rows = Best n edges (take n rows) × (f .total ≡ total edges (at (take n rows)))
-RowsBest n edges (Refused r) rows = Unit {0}
+-- the total among the numbers of a chart
+abbrev pub totalTold : List ℕ → ℕ
+totalTold numbers = getD numbers 2 0
+
+-- Where the call tells 0, the first entries of the buffer for rows, one a step, are the best rows, and the total that it tells is theirs.
+abbrev pub DrawnBest : ℕ → List Edge → List ℕ → List ℕ → Type 0
+DrawnBest n edges numbers rows = refusalIn numbers ≡ 0 → Best n edges (take n rows) × (totalTold numbers ≡ total edges (at (take n rows)))
 
 -- for the steps and edges that a table's bytes say
-abbrev pub ChartBest : Outcome Contents → ChartAnswer → List ℕ → Type 0
-ChartBest (done t) a rows = RowsBest (length (t .steps)) (t .edges) a rows
-ChartBest (refused r) a rows = Unit {0}
+abbrev pub ChartBest : List ℕ → List ℕ → List ℕ → Type 0
+ChartBest bytes numbers rows = DrawnBest (length (contentsOf (read bytes) .steps)) (contentsOf (read bytes) .edges) numbers rows
+
+-- ---- what a layer above builds on
+
+-- the chart of an outcome; a refusal has no rows, no points and no figures
+abbrev pub chartBy : Outcome Charted → Charted
+chartBy (done c) = c
+chartBy (refused r) = record { rows = []; order = []; figures = record { points = 0; total = 0; crossings = 0 } }
+
+-- a chart in arrays, whose entries behind those in use are 0: the number of steps and their rows, how many rows these make, the points in
+-- their order, and the figures
+pub record ChartArrays : Type 0 where
+  pub n : ℕ
+  pub rows : List ℕ
+  pub height : ℕ
+  pub order : List ℕ
+  pub figures : Figures
+
+abbrev pub arraysOf : Charted → ChartArrays
+arraysOf c =
+    record {
+      n = length (c .rows);
+      rows = padded maxSteps 0 (c .rows);
+      height = rowCount (c .rows);
+      order = padded maxPoints 0 (c .order);
+      figures = c .figures;
+    }
+
+-- the numbers of the outcome, the table, and the chart
+pub record DrawEnd : Type 0 where
+  pub numbers : List ℕ
+  pub table : Table
+  pub arrays : ChartArrays
+
+-- 0 or the refusal's number, with a blank chart where refused
+unfoldable pub drawCall : List ℕ → DrawEnd
+drawCall bytes =
+    record {
+      numbers = told bare (chartOfTable bytes);
+      table = readCall bytes .table;
+      arrays = arraysOf (chartBy (chartOut (chartOfTable bytes)));
+    }
+
+-- what the code's arrays hold
+abbrev pub arraysIn : ChartFound → ChartArrays
+arraysIn f =
+    record {
+      n = f .n;
+      rows = f .rows;
+      height = f .height;
+      order = f .order;
+      figures = record { points = f .points; total = f .total; crossings = f .crossings };
+    }
+
+-- what the code answers, in numbers
+abbrev pub drawEnd : TableChart → DrawEnd
+drawEnd r = record { numbers = verdictNumbers (r .found .verdict); table = r .table; arrays = arraysIn (r .found) }

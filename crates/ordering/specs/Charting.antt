@@ -1,26 +1,28 @@
 -- What the functions behind the whole chart ask for and answer.
 use mathlib.Core.Path.{_≡_}
-use mathlib.Core.List.{List, map}
+use mathlib.Core.List.{List, [], map}
 use Prim.Native.Nat.{ℕ, _+_, _*_, _≤_, _<_}
 use lib.Dec.{leb}
 use lib.ListN.{length, take}
 use Rattle.graph.specs.declared.Edge.{Edge}
 use Rattle.graph.specs.Rows.{at, total, Best}
-use Rattle.table.specs.declared.types.Refusal.the-variants.{ManyPoints}
-use Rattle.table.specs.declared.types.Verdict.the-variants.{Accepted}
+use Rattle.outcome.specs.declared.Refusal.{Refusal}
+use Rattle.outcome.specs.declared.Refusal.the-variants.{ManyPoints}
+use Rattle.outcome.specs.declared.Verdict.the-variants.{Accepted, Refused}
 use Rattle.table.specs.Limits.{maxSteps, maxEdges, maxPoints, maxWeight}
-use Rattle.table.specs.Refusal.{Outcome, done, demand}
-use Rattle.table.specs.Table.{read}
-use Rattle.layering.specs.Placed.{outcomeBy, topRow, FairEdges, contentsOf}
+use Rattle.outcome.specs.Refusal.{Outcome, done, demand}
+use Rattle.table.specs.Table.{contentsOf, read}
+use Rattle.buffers.specs.Padded.{padded}
+use Rattle.layering.specs.Placed.{outcomeBy, topRow, FairEdges}
 use Rattle.ordering.specs.declared.Figures.{Figures}
 use Rattle.ordering.specs.declared.ChartAnswer.{ChartAnswer}
 use Rattle.ordering.specs.declared.types.ChartFound.{ChartFound}
-use Rattle.ordering.specs.Points.{pointRows, rowCount}
-use Rattle.ordering.specs.Crossings.{drawingOf}
-use Rattle.ordering.specs.Flat.{Below}
-use Rattle.ordering.specs.Laying.{edgesBetween, Chart}
+use Rattle.points.specs.Points.{pointRows, rowCount}
+use Rattle.ordering.specs.Fewest.{drawingOf}
+use Rattle.buffers.specs.Lists.{Below}
+use Rattle.points.specs.Laying.{edgesBetween, Chart}
 use Rattle.ordering.specs.Drawing.{DrawnIs}
-use Rattle.ordering.specs.Calls.{pointCount, Charted, charted, chartOut, chartOfTable, chartEnd, chartAnswer}
+use Rattle.ordering.specs.Calls.{pointCount, Charted, charted, chartOut, chartOfTable, chartEnd, chartNumbers, chartBy, arraysOf, arraysIn}
 
 -- the first m entries of two arrays are the ends of the first m edges
 pub record Split (m : ℕ) (edges : List Edge) (from to : List ℕ) : Type 0 where
@@ -40,13 +42,28 @@ pub record PointsAre (ys from to : List ℕ) (points : ℕ) (order : List ℕ) (
   pub count : points ≡ length (pointRows ys (edgesBetween from to))
   pub drawn : points ≤ maxPoints → DrawnIs (drawingOf ys (edgesBetween from to)) order crossings
 
--- best rows of fair edges, in the first n entries of an array, and their total
-pub record Solved (n : ℕ) (edges : List Edge) (rows : List ℕ) (sum : ℕ) : Type 0 where
+-- best rows of fair edges, in the first n entries of an array whose others are 0, and their total
+pub record RowsGiven (n : ℕ) (edges : List Edge) (rows : List ℕ) (sum : ℕ) : Type 0 where
   pub fair : FairEdges n edges
   pub best : Best n edges (take n rows)
   pub summed : sum ≡ total edges (at (take n rows))
+  pub blank : rows ≡ padded maxSteps 0 (take n rows)
   pub long : length rows ≡ maxSteps
   pub low : (v : ℕ) → v < n → at rows v ≤ topRow
+
+-- a refusal, with a blank chart
+abbrev pub noChart : Refusal → ChartFound
+noChart r =
+    record {
+      verdict = Refused r;
+      n = 0;
+      rows = padded maxSteps 0 [];
+      height = 0;
+      points = 0;
+      order = padded maxPoints 0 [];
+      total = 0;
+      crossings = 0;
+    }
 
 -- what arrays and numbers hold
 abbrev pub chartedBy : ChartFound → Charted
@@ -58,8 +75,8 @@ chartedBy f =
     }
 
 -- the outcome that they hold
-abbrev pub foundOf : ChartFound → Outcome Charted
-foundOf f = outcomeBy (f .verdict) (chartedBy f)
+abbrev pub heldChart : ChartFound → Outcome Charted
+heldChart f = outcomeBy (f .verdict) (chartedBy f)
 
 -- what can be handed out: the entries are there, and each fits a buffer's
 pub record Storable (f : ChartFound) : Type 0 where
@@ -71,10 +88,11 @@ pub record Storable (f : ChartFound) : Type 0 where
 pub record Handable (f : ChartFound) : Type 0 where
   pub storable : f .verdict ≡ Accepted → Storable f
 
--- an outcome in arrays: where it is not refused, it can be handed out, its rows are the best of the edges, and
+-- an outcome in arrays, and nothing else in them: where it is not refused, it can be handed out, its rows are the best of the edges, and
 -- its total and its height are theirs
-pub record Found (n : ℕ) (edges : List Edge) (what : Outcome Charted) (f : ChartFound) : Type 0 where
-  pub says : foundOf f ≡ what
+pub record ChartHeld (n : ℕ) (edges : List Edge) (what : Outcome Charted) (f : ChartFound) : Type 0 where
+  pub says : heldChart f ≡ what
+  pub whole : arraysIn f ≡ arraysOf (chartBy what)
   pub handable : Handable f
   pub best : f .verdict ≡ Accepted → Best n edges (take (f .n) (f .rows))
   pub summed : f .verdict ≡ Accepted → f .total ≡ total edges (at (take (f .n) (f .rows)))
@@ -85,15 +103,15 @@ abbrev pub unlessLarge : List ℕ → List Edge → Outcome Charted
 unlessLarge rows edges = demand (leb (pointCount rows edges) maxPoints) ManyPoints (done (charted rows edges))
 
 abbrev pub EdgesFound : ℕ → List Edge → List ℕ → ChartFound → Type 0
-EdgesFound n edges rows f = Found n edges (unlessLarge rows edges) f
+EdgesFound n edges rows f = ChartHeld n edges (unlessLarge rows edges) f
 
 -- the chart of a table
 abbrev pub TableFound : List ℕ → ChartFound → Type 0
-TableFound bytes f = Found (length (contentsOf (read bytes) .steps)) (contentsOf (read bytes) .edges) (chartOut (chartOfTable bytes)) f
+TableFound bytes f = ChartHeld (length (contentsOf (read bytes) .steps)) (contentsOf (read bytes) .edges) (chartOut (chartOfTable bytes)) f
 
 -- an outcome handed out in two buffers
-pub record HandedOut (what : Outcome Charted) (rows order rows′ order′ : List ℕ) (r : ChartAnswer) : Type 0 where
-  pub answer : r ≡ chartAnswer (chartEnd what rows order .answer)
+pub record ChartHandedOut (what : Outcome Charted) (rows order rows′ order′ : List ℕ) (r : ChartAnswer) : Type 0 where
+  pub numbers : chartNumbers r ≡ chartEnd what rows order .numbers
   pub rows-are : rows′ ≡ chartEnd what rows order .rows
   pub order-is : order′ ≡ chartEnd what rows order .order
 

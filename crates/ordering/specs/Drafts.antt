@@ -4,13 +4,14 @@ use mathlib.Core.List.{List, map, flatten}
 use Prim.Native.Nat.{ℕ, suc, _≤_, _<_}
 use lib.ListN.{length, take}
 use Rattle.table.specs.Limits.{maxPoints}
-use Rattle.ordering.specs.Points.{Segment}
+use Rattle.points.specs.Points.{Segment}
 use Rattle.ordering.specs.Order.{Direction, downward, results}
-use Rattle.ordering.specs.Crossings.{Drawing, crossings, drawn, fewest, bestOrder}
-use Rattle.ordering.specs.Flat.{Below}
-use Rattle.ordering.specs.Bounds.{countLimit}
-use Rattle.ordering.specs.Laid.{segmentsIn, rowsIn, Ends, Laid}
-use Rattle.ordering.specs.Placing.{Linked}
+use Rattle.ordering.specs.Fewest.{Drawing, drawn, fewest, bestOrder}
+use Rattle.crossings.specs.Crossings.{crossings}
+use Rattle.buffers.specs.Lists.{Below}
+use Rattle.barycentre.specs.Bounds.{countLimit}
+use Rattle.ordering.specs.Laid.{segmentsIn, rowsIn, SegmentEnds, Laid}
+use Rattle.crossings.specs.Placing.{Linked}
 use Rattle.ordering.specs.Drawing.{maxSegments}
 
 -- What a loop over the passes has left to do: the best so far against the results of the k passes that are left, the next one in
@@ -39,8 +40,8 @@ pub record Sketched (row upper lower : List ℕ) (count : ℕ) : Type 0 where
 
 -- what no pass changes: how many segments are at each end of each point, and the next segment in the row of each
 pub record Prepared (row upper lower above below next : List ℕ) : Type 0 where
-  pub ends-above : Ends (length row) lower upper above
-  pub ends-below : Ends (length row) upper lower below
+  pub ends-above : SegmentEnds (length row) lower upper above
+  pub ends-below : SegmentEnds (length row) upper lower below
   pub linked : Linked upper row next
 
 -- room for the start order, its positions and a copy of it
@@ -83,6 +84,6 @@ pub data Keeping (order : List ℕ) (crossings : ℕ) (saved : List ℕ) (fewest
   replaced : crossings < fewest → fewest′ ≡ crossings → saved′ ≡ order → Keeping order crossings saved fewest saved′ fewest′
 
 -- a drawing in the first entries of a list, and its crossings
-pub record Held (d : Drawing) (order : List ℕ) (crossings : ℕ) : Type 0 where
+pub record DrawingHeld (d : Drawing) (order : List ℕ) (crossings : ℕ) : Type 0 where
   pub order-is : take (length (flatten (d .order))) order ≡ flatten (d .order)
   pub crossings-are : crossings ≡ d .crossings

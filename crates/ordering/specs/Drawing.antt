@@ -4,10 +4,10 @@ use mathlib.Core.List.{List, flatten}
 use Prim.Native.Nat.{ℕ, _+_, _≤_}
 use lib.ListN.{length, take}
 use Rattle.table.specs.Limits.{maxPoints, maxEdges}
-use Rattle.ordering.specs.Points.{pointRows}
-use Rattle.ordering.specs.Crossings.{Drawing}
-use Rattle.ordering.specs.Flat.{Below}
-use Rattle.ordering.specs.Laying.{edgesBetween, Chart}
+use Rattle.points.specs.Points.{pointRows}
+use Rattle.ordering.specs.Fewest.{Drawing}
+use Rattle.buffers.specs.Lists.{Below}
+use Rattle.points.specs.Laying.{edgesBetween, Chart}
 
 -- what can be drawn: a chart of few enough points, edges and rows
 pub record Drawable (ys from to : List ℕ) : Type 0 where

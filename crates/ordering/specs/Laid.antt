@@ -6,11 +6,11 @@ use Prim.Native.Nat.{ℕ, suc, _-_, _≤_, _<_}
 use lib.Dec.{eqb}
 use lib.ListN.{length, getD, take, set}
 use Rattle.graph.specs.Rows.{at}
-use Rattle.ordering.specs.Points.{Segment}
-use Rattle.ordering.specs.Order.{place}
-use Rattle.ordering.specs.Flat.{Below, Counts}
-use Rattle.ordering.specs.Bounds.{countLimit}
-use Rattle.ordering.specs.Reordered.{occurs}
+use Rattle.points.specs.Points.{Segment}
+use Rattle.points.specs.Positions.{place}
+use Rattle.buffers.specs.Lists.{Below, occurs}
+use Rattle.barycentre.specs.Flat.{Counts}
+use Rattle.barycentre.specs.Bounds.{countLimit}
 use Rattle.ordering.specs.Starts.{start}
 
 -- The order o of points with the rows ys: `count` rows, in which each point stands once, in its own row, and nothing else stands.
@@ -47,7 +47,7 @@ segmentsIn [] lower = []
 segmentsIn (a ∷ upper) lower = record { upper = a; lower = at lower 0 } ∷ segmentsIn upper (tail lower)
 
 -- Segments between n points, by the lists of their near and far ends, with how many are at each near end.
-pub record Ends (n : ℕ) (near far counts : List ℕ) : Type 0 where
+pub record SegmentEnds (n : ℕ) (near far counts : List ℕ) : Type 0 where
   pub near-in : Below n near
   pub far-in : Below n far
   pub one-each : length near ≡ length far
@@ -60,7 +60,7 @@ pub record Standing (near far counts : List ℕ) (count : ℕ) (order first pos 
   pub ys : List ℕ
   pub o : List (List ℕ)
   pub laid : Laid ys count o order first pos
-  pub ends : Ends (at first count) near far counts
+  pub ends : SegmentEnds (at first count) near far counts
   pub totals-long : at first count ≤ length totals
   pub moved-long : at first count ≤ length moved
 

@@ -1,16 +1,8 @@
--- Points, their order in rows, and crossings: document 01 under "Pass points and order".
-pub mod Points
-pub mod Means
+-- The order of points in their rows and the whole chart: document 01 under "Pass points and order".
 pub mod Order
-pub mod Crossings
-pub mod Flat
-pub mod Bounds
-pub mod Steps
-pub mod Reordered
+pub mod Fewest
 pub mod Starts
 pub mod Laid
-pub mod Laying
-pub mod Placing
 pub mod Drawing
 pub mod Drafts
 pub mod Calls

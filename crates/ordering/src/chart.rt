@@ -1,19 +1,20 @@
 // The chart of edges in their best rows: the order of its points, or why there is none.
 use crate::draw::draw_points;
-use crate::points::count_points;
-use crate::start::count_rows;
 use crate::types::ChartFound;
 use graph::Edge;
+use outcome::Refusal;
+use outcome::Verdict;
+use points::count_points;
+use points::count_rows;
 use table::limits::MAX_EDGES;
 use table::limits::MAX_POINTS;
 use table::limits::MAX_STEPS;
-use table::types::Refusal;
-use table::types::Verdict;
 ghost use mathlib.Core.Path.{_≡_};
 ghost use Prim.Native.Nat.{_≤_};
 ghost use lib.ListN.{length, take};
-ghost use Rattle.table.specs.Limits.{maxEdges};
-ghost use Rattle.ordering.specs.Charting.{Split, Sizable, PointsAre, Solved, EdgesFound};
+ghost use Rattle.table.specs.Limits.{maxEdges, maxPoints};
+ghost use Rattle.buffers.specs.Padded.{padded};
+ghost use Rattle.ordering.specs.Charting.{Split, Sizable, PointsAre, RowsGiven, noChart, EdgesFound};
 
 // The ends of edges, one array an end.
 pub struct EdgeEnds {
@@ -28,9 +29,9 @@ pub struct PointsDrawn {
     pub crossings: usize,
 }
 
-// A refusal, with no chart.
+// A refusal, with a blank chart.
 pub fn refuse_chart(f: Refusal) -> ChartFound
-    ensures { λ r. ⌜ r .verdict ≡ Verdict.Refused f ⌝ }
+    ensures { λ r. ⌜ r ≡ noChart f ⌝ }
 {
     ChartFound {
         verdict: Verdict::Refused(f),
@@ -52,7 +53,7 @@ pub fn draw_edges(
     rows: [usize; MAX_STEPS],
     total: usize,
 ) -> ChartFound
-    requires { ⌜ Solved n (take m edges) rows total ⌝ }
+    requires { ⌜ RowsGiven n (take m edges) rows total ⌝ }
     requires { ⌜ (m ≤ maxEdges) × (length edges ≡ maxEdges) ⌝ }
     ensures { λ r. ⌜ EdgesFound n (take m edges) (take n rows) r ⌝ }
 {
@@ -64,7 +65,8 @@ pub fn draw_edges(
         return refuse_chart(Refusal::ManyPoints);
     }
     let height = count_rows(&rows[..n]);
-    let order = drawn.order;
+    let found = drawn.order;
+    let order = copy_points(&found, drawn.points);
     ChartFound {
         verdict: Verdict::Accepted,
         n: n,
@@ -75,6 +77,18 @@ pub fn draw_edges(
         total: total,
         crossings: drawn.crossings,
     }
+}
+
+// The first points of a list in an array, whose others are 0.
+fn copy_points(list: &[usize], points: usize) -> [usize; MAX_POINTS]
+    requires { ⌜ (points ≤ length (now list)) × (points ≤ maxPoints) ⌝ }
+    ensures { λ r. ⌜ r ≡ padded maxPoints 0 (take points (now (list .entry))) ⌝ }
+{
+    let mut array = [0usize; MAX_POINTS];
+    for i in 0..points {
+        array[i] = list[i];
+    }
+    array
 }
 
 // The ends of the first m edges.

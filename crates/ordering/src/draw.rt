@@ -1,27 +1,29 @@
 // The drawing of a chart: the points in their start order and after each of eight passes, and of these orders the first with fewest
 // crossings.
-use crate::crossings::count_crossings;
-use crate::crossings::link_rows;
-use crate::means::count_ends;
 use crate::passes::pass_down;
 use crate::passes::pass_up;
 use crate::passes::place_all;
-use crate::points::lay_rows;
-use crate::points::lay_segments;
-use crate::start::count_rows;
 use crate::start::start_order;
+use barycentre::count_ends;
+use buffers::copy_all;
+use crossings::count_crossings;
+use crossings::link_rows;
+use points::count_rows;
+use points::lay_rows;
+use points::lay_segments;
 use table::limits::MAX_EDGES;
 use table::limits::MAX_POINTS;
 ghost use mathlib.Core.Path.{_≡_};
 ghost use Prim.Native.Nat.{_≤_, _<_};
 ghost use lib.ListN.{length};
 ghost use Rattle.ordering.specs.Order.{downward};
-ghost use Rattle.ordering.specs.Crossings.{crossingPairs, passCount, bestOrder, drawingOf};
-ghost use Rattle.ordering.specs.Laying.{edgesBetween};
+ghost use Rattle.crossings.specs.Crossings.{crossingPairs};
+ghost use Rattle.ordering.specs.Fewest.{passCount, bestOrder, drawingOf};
+ghost use Rattle.points.specs.Laying.{edgesBetween};
 ghost use Rattle.ordering.specs.Laid.{segmentsIn};
-ghost use Rattle.ordering.specs.Placing.{placedBy, Linked};
+ghost use Rattle.crossings.specs.Placing.{placedBy, Linked};
 ghost use Rattle.ordering.specs.Drawing.{Drawable, DrawnIs};
-ghost use Rattle.ordering.specs.Drafts.{bestIn, Segmented, Sketched, Prepared, Roomy, Passable, Improving, Bettered, Keeping, Held};
+ghost use Rattle.ordering.specs.Drafts.{bestIn, Segmented, Sketched, Prepared, Roomy, Passable, Improving, Bettered, Keeping, DrawingHeld};
 
 // Each edge has one segment more than dummies.
 const MAX_SEGMENTS: usize = MAX_POINTS + MAX_EDGES;
@@ -138,7 +140,7 @@ fn start_drawing(
     let count = first.len() - 1;
     start_order(row, count, order, first);
     place_all(order, first, pos);
-    copy_order(order, saved);
+    copy_all(order, saved);
     count_crossings(upper, lower, row, pos, next)
 }
 
@@ -162,7 +164,7 @@ fn improve_drawing(
     requires { ⌜ Improving (now row) (now upper) (now lower) (now first) passCount downward (now order) (now pos) (now saved) crossings ⌝ }
     requires { ⌜ length (now row) ≤ length (now totals) ⌝ }
     requires { ⌜ length (now row) ≤ length (now moved) ⌝ }
-    ensures { λ r. ⌜ Held (bestIn (now (row .entry)) (now (upper .entry)) (now (lower .entry)) (now (first .entry))) (now (saved .exit)) r ⌝ }
+    ensures { λ r. ⌜ DrawingHeld (bestIn (now (row .entry)) (now (upper .entry)) (now (lower .entry)) (now (first .entry))) (now (saved .exit)) r ⌝ }
 {
     let mut fewest = crossings;
     let mut k = 0;
@@ -240,18 +242,8 @@ fn keep_fewer(order: &[usize], crossings: usize, saved: &mut [usize], fewest: us
     ensures { λ r. ⌜ Keeping (now (order .entry)) crossings (now (saved .entry)) fewest (now (saved .exit)) r ⌝ }
 {
     if crossings < fewest {
-        copy_order(order, saved);
+        copy_all(order, saved);
         return crossings;
     }
     fewest
-}
-
-// All entries of an order.
-fn copy_order(order: &[usize], saved: &mut [usize])
-    requires { ⌜ length (now saved) ≡ length (now order) ⌝ }
-    ensures { λ _. ⌜ now (saved .exit) ≡ now (order .entry) ⌝ }
-{
-    for i in 0..order.len() {
-        saved[i] = order[i];
-    }
 }

@@ -1,13 +1,11 @@
 // The orderer: the whole chart of a table, its rows and the order of its points, in buffers that are lent.
 //
-// The call takes any input, ends, and has no condition. Its contract puts its answer and both buffers equal to what a definition of
-// specs/Calls.antt makes of the input, and says of the rows of an answer that they are the best and of its total that it is theirs.
+// The calls take any input, end, and have no condition. Their contracts put the answer, told in numbers, and both buffers equal to what a
+// definition of specs/Calls.antt makes of the input, and say of the rows of an answer that they are the best and of its total that it is
+// theirs.
 mod chart;
-mod crossings;
 mod draw;
-mod means;
 mod passes;
-mod points;
 mod start;
 mod store;
 pub mod types;
@@ -18,12 +16,10 @@ use crate::store::hand_out_chart;
 use crate::types::TableChart;
 use layering::place_table;
 use layering::types::Row;
-use table::types::Refusal;
-use table::types::Verdict;
+use outcome::Refusal;
+use outcome::Verdict;
 ghost use mathlib.Core.Path.{_≡_};
-ghost use Rattle.table.specs.Table.{read};
-ghost use Rattle.table.specs.Calls.{tableRead};
-ghost use Rattle.ordering.specs.Calls.{chartCall, chartAnswer, ChartBest};
+ghost use Rattle.ordering.specs.Calls.{chartCall, chartNumbers, ChartBest, drawCall, drawEnd};
 ghost use Rattle.ordering.specs.Charting.{TableFound};
 
 // The numbers that go with a chart: of its points, the total of its rows, and the crossings of its order.
@@ -42,19 +38,20 @@ pub enum ChartAnswer {
 // A table's chart: its rows to the first entries of one buffer, one a step, and the points in their order to those of the other, one
 // a point. Refuses as the rows call does, then too many points, then a buffer with fewer entries than it is to get.
 pub fn draw_chart(bytes: &[u8], rows: &mut [Row], order: &mut [u16]) -> ChartAnswer
-    ensures { λ r. ⌜ r ≡ chartAnswer (chartCall (now (bytes .entry)) (now (rows .entry)) (now (order .entry)) .answer) ⌝ }
+    ensures { λ r. ⌜ chartNumbers r ≡ chartCall (now (bytes .entry)) (now (rows .entry)) (now (order .entry)) .numbers ⌝ }
     ensures { λ _. ⌜ now (rows .exit) ≡ chartCall (now (bytes .entry)) (now (rows .entry)) (now (order .entry)) .rows ⌝ }
     ensures { λ _. ⌜ now (order .exit) ≡ chartCall (now (bytes .entry)) (now (rows .entry)) (now (order .entry)) .order ⌝ }
-    ensures { λ r. ⌜ ChartBest (read (now (bytes .entry))) r (now (rows .exit)) ⌝ }
+    ensures { λ r. ⌜ ChartBest (now (bytes .entry)) (chartNumbers r) (now (rows .exit)) ⌝ }
 {
     let charted = chart_table(bytes);
     let found = charted.found;
     hand_out_chart(found, rows, order)
 }
 
-// The table that the bytes write down, with its chart: what a layer above builds on.
+// The table that the bytes write down, with its chart: what a layer above builds on. Refuses as the rows call does, then too many points;
+// then the chart is blank.
 pub fn chart_table(bytes: &[u8]) -> TableChart
-    ensures { λ r. ⌜ r .table ≡ tableRead (read (now (bytes .entry))) .table ⌝ }
+    ensures { λ r. ⌜ drawEnd r ≡ drawCall (now (bytes .entry)) ⌝ }
     ensures { λ r. ⌜ TableFound (now (bytes .entry)) (r .found) ⌝ }
 {
     let placed = place_table(bytes);

@@ -1,12 +1,13 @@
 // Passes over an order that is kept flat: row by row the points are put in order, and their positions stored.
-use crate::means::reorder_row;
-use crate::means::total_ends;
+use barycentre::reorder_row;
+use barycentre::total_ends;
 ghost use mathlib.Core.Path.{_≡_};
 ghost use Prim.Native.Nat.{_≤_, _<_};
 ghost use lib.ListN.{length};
 ghost use lib.Seq.{slice};
 ghost use Rattle.ordering.specs.Order.{settleRow, pass, downward, upward};
-ghost use Rattle.ordering.specs.Flat.{Below, endsIn};
+ghost use Rattle.buffers.specs.Lists.{Below};
+ghost use Rattle.barycentre.specs.Flat.{endsIn};
 ghost use Rattle.ordering.specs.Laid.{stored, segmentsIn, rowsIn, Standing, Changed, Placeable, Positioned};
 
 // The positions of the points from entry a to entry b of the order, stored by point.

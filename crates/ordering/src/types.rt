@@ -1,8 +1,8 @@
 // What the orderer hands to a layer above.
+use outcome::Verdict;
 use table::limits::MAX_POINTS;
 use table::limits::MAX_STEPS;
 use table::types::Table;
-use table::types::Verdict;
 
 // The first n rows, how many rows these make, the points in their order, and the numbers that go with them; or why there are none.
 pub struct ChartFound {

@@ -7,7 +7,7 @@ use native.Mathlib.Omega.{arith}
 use lib.ListN.{length, take, set, length-set}
 use lib.Seq.{take-suc-set}
 use Rattle.graph.specs.declared.Edge.{Edge}
-use Rattle.records.specs.Input.{maxLent, edgeAt, firstEdges, countOf, stepsIn, edgesIn}
+use Rattle.records.specs.Input.{maxLent, lentAt, firstEdges, countOf, stepsIn, edgesIn}
 
 -- the first i edges, of m, stand in the array
 pub record Reading (s : List ℕ) (m i : ℕ) (edges : List Edge) : Type 0 where
@@ -25,7 +25,7 @@ module _ (s : List ℕ) (m : ℕ) where
     pub reading-in : i < m → i < maxLent
     reading-in h = omega (arith, r .few)
 
-    pub reading-more : i < m → (e : Edge) → e ≡ edgeAt s i → Reading s m (i + 1) (set edges i e)
+    pub reading-more : i < m → (e : Edge) → e ≡ lentAt s i → Reading s m (i + 1) (set edges i e)
     unfolding firstEdges
     reading-more h e is =
         record {

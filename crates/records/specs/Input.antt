@@ -18,8 +18,8 @@ halfAt s at = getD s at 0 + getD s (at + 1) 0 * 256 + (getD s (at + 2) 0 + getD 
 unfoldable pub wordAt : List ℕ → ℕ → ℕ
 wordAt s i = cond (leb (length s / 8) i) 0 (halfAt s (i * 8) + halfAt s (i * 8 + 4) * 4294967296)
 
-unfoldable pub edgeAt : List ℕ → ℕ → Edge
-edgeAt s i = record {
+unfoldable pub lentAt : List ℕ → ℕ → Edge
+lentAt s i = record {
   from = wordAt s (2 + i * 4);
   to = wordAt s (2 + i * 4 + 1);
   gap = wordAt s (2 + i * 4 + 2);
@@ -29,7 +29,7 @@ edgeAt s i = record {
 -- the first edges
 unfoldable pub firstEdges : List ℕ → ℕ → List Edge
 firstEdges s zero = []
-firstEdges s (suc m) = firstEdges s m ++ (edgeAt s m ∷ [])
+firstEdges s (suc m) = firstEdges s m ++ (lentAt s m ∷ [])
 
 -- whole records only, and no more than are lent
 abbrev pub countOf : ℕ → ℕ

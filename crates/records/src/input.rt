@@ -6,7 +6,7 @@ use graph::Edge;
 ghost use mathlib.Core.Path.{_≡_};
 ghost use Prim.Native.Nat.{_+_, _≤_, _<_, min};
 ghost use lib.ListN.{length, take};
-ghost use Rattle.records.specs.Input.{maxLent, halfAt, wordAt, edgeAt, firstEdges, countOf};
+ghost use Rattle.records.specs.Input.{maxLent, halfAt, wordAt, lentAt, firstEdges, countOf};
 
 const WORD: usize = 8;
 
@@ -64,7 +64,7 @@ pub fn read_edges(bytes: &[u8], m: usize) -> [Edge; MAX_LENT]
 
 fn edge_at(bytes: &[u8], i: usize) -> Edge
     requires { ⌜ i < maxLent ⌝ }
-    ensures { λ r. ⌜ r ≡ edgeAt (now (bytes .entry)) i ⌝ }
+    ensures { λ r. ⌜ r ≡ lentAt (now (bytes .entry)) i ⌝ }
 {
     let at = HEAD + i * FIELDS;
     Edge {

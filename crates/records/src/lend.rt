@@ -6,7 +6,7 @@ use layering::types::RowsAnswer;
 ghost use mathlib.Core.Path.{_≡_};
 ghost use Prim.Native.Nat.{_≤_};
 ghost use lib.ListN.{take};
-ghost use Rattle.layering.specs.Calls.{rowsAnswer, recordCall, RecordsBest};
+ghost use Rattle.layering.specs.Calls.{rowsNumbers, recordCall, RecordsBest};
 ghost use Rattle.records.specs.Input.{maxLent};
 
 // More than the row finder takes, so that it is seen to refuse a list that is too long.
@@ -15,9 +15,9 @@ pub const MAX_LENT: usize = 200;
 // The row finder's answer for n steps and the first m edges.
 pub fn find_lent(n: usize, edges: [Edge; MAX_LENT], m: usize, rows: &mut [Row]) -> RowsAnswer
     requires { ⌜ m ≤ maxLent ⌝ }
-    ensures { λ r. ⌜ r ≡ rowsAnswer (recordCall n (take m edges) (now (rows .entry)) .answer) ⌝ }
+    ensures { λ r. ⌜ rowsNumbers r ≡ recordCall n (take m edges) (now (rows .entry)) .numbers ⌝ }
     ensures { λ _. ⌜ now (rows .exit) ≡ recordCall n (take m edges) (now (rows .entry)) .rows ⌝ }
-    ensures { λ r. ⌜ RecordsBest n (take m edges) r (now (rows .exit)) ⌝ }
+    ensures { λ r. ⌜ RecordsBest n (take m edges) (rowsNumbers r) (now (rows .exit)) ⌝ }
 {
     find_rows_of_records(n, &edges[..m], rows)
 }

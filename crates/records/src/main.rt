@@ -13,9 +13,9 @@ use layering::types::Row;
 use layering::types::RowsAnswer;
 use libc::STDIN_FILENO;
 use libc::STDOUT_FILENO;
-use table::types::Refusal;
+use outcome::Refusal;
 ghost use mathlib.Core.Path.{_≡_};
-ghost use Rattle.layering.specs.Calls.{rowsAnswer, recordCall, RecordsBest};
+ghost use Rattle.layering.specs.Calls.{rowsNumbers, recordCall, RecordsBest};
 ghost use Rattle.records.specs.Input.{stepsIn, edgesIn};
 
 // The most entries of a buffer that can be lent.
@@ -30,7 +30,7 @@ fn print_field(x: usize) {
 // The refusal's number, and for a loop the lowest step on one.
 fn print_refusal(f: Refusal) {
     io::write_all(STDOUT_FILENO, b"refused");
-    print_field(table::number_of(f));
+    print_field(outcome::number_of(f));
     if let Refusal::Loop(s) = f {
         print_field(s);
     }
@@ -58,9 +58,9 @@ fn print_rows(rows: &[Row], n: usize) {
 
 // The row finder's answer for the steps and edges that the input says.
 fn find_asked(bytes: &[u8], rows: &mut [Row]) -> RowsAnswer
-    ensures { λ r. ⌜ r ≡ rowsAnswer (recordCall (stepsIn (now (bytes .entry))) (edgesIn (now (bytes .entry))) (now (rows .entry)) .answer) ⌝ }
+    ensures { λ r. ⌜ rowsNumbers r ≡ recordCall (stepsIn (now (bytes .entry))) (edgesIn (now (bytes .entry))) (now (rows .entry)) .numbers ⌝ }
     ensures { λ _. ⌜ now (rows .exit) ≡ recordCall (stepsIn (now (bytes .entry))) (edgesIn (now (bytes .entry))) (now (rows .entry)) .rows ⌝ }
-    ensures { λ r. ⌜ RecordsBest (stepsIn (now (bytes .entry))) (edgesIn (now (bytes .entry))) r (now (rows .exit)) ⌝ }
+    ensures { λ r. ⌜ RecordsBest (stepsIn (now (bytes .entry))) (edgesIn (now (bytes .entry))) (rowsNumbers r) (now (rows .exit)) ⌝ }
 {
     let n = word_at(bytes, 0);
     let m = count_records(bytes.len());

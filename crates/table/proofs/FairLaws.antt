@@ -11,14 +11,14 @@ use Rattle.graph.specs.declared.Edge.{Edge}
 use Rattle.graph.specs.Rows.{noEdge}
 use Rattle.table.specs.declared.types.Kind.{Kind}
 use Rattle.table.specs.declared.types.Kind.the-variants.{Check, Adjust, Wait}
-use Rattle.table.specs.declared.types.Refusal.the-variants.{BadEdition, ManySteps, BadKind, OutOfRange, BadNameByte, ManyEdges, BadEnd, Spare}
+use Rattle.outcome.specs.declared.Refusal.the-variants.{BadEdition, ManySteps, BadKind, OutOfRange, BadNameByte, ManyEdges, BadEnd, Spare}
 use Rattle.table.specs.declared.types.Step.{Step}
 use Rattle.table.specs.Limits.{edition, maxSteps, maxEdges, maxKind, maxTolerance, minMinutes, maxMinutes, minName, maxName, minNameByte, maxNameByte, minGap, maxGap, maxWeight, maxTable}
-use Rattle.table.specs.Refusal.{done}
+use Rattle.outcome.specs.Refusal.{done}
 use Rattle.table.specs.Number.{Read, got, fault, andThen, judge, byteAt, numberAt, numberIn, many, counted}
 use Rattle.table.specs.Table.{adjustAt, waitAt, kindAt, nameByteAt, nameAt, namedAt, stepAt, endAt, edgeBetween, edgeAt, stepsAt, edgesAt, listsAt, tableAt, outcome, read, Contents}
 use Rattle.table.specs.Calls.{noStep}
-use Rattle.table.specs.Fair.{KindLow, FairStep, FairEdge, Fair}
+use Rattle.table.specs.Fair.{KindInRange, FairStep, FairEdge, Fair}
 use Rattle.table.proofs.NumberLaws.{in-limits}
 use Rattle.table.proofs.InverseLaws.{never, came, passed, both, got-value, got-place, many-length, many-each, many-width}
 use Rattle.table.proofs.PlaceLaws.{byte-place, number-place, limits-place}
@@ -43,23 +43,23 @@ kind-place s at {k} {p} e =
         let c = came (numberIn minMinutes maxMinutes OutOfRange s q) _ e in
         omega (arith, got-place (c .next), limits-place minMinutes maxMinutes OutOfRange s q (c .first))
 
--- the number that it carries was read within its limit
-kind-low : (s : List ℕ) (at : ℕ) {k : Kind} {p : ℕ} → kindAt s at ≡ got k p → KindLow k
+-- the number that it carries was read within its limits
+kind-in : (s : List ℕ) (at : ℕ) {k : Kind} {p : ℕ} → kindAt s at ≡ got k p → KindInRange k
 unfolding kindAt adjustAt waitAt
-kind-low s at {k} {p} e =
+kind-in s at {k} {p} e =
     let c = came (numberIn 0 maxKind BadKind s at) _ e in
     go (eqb (c .value) 0) (eqb (c .value) 1) (c .place) (c .next)
   where
     go : (t u : Bool) (q : ℕ)
         → cond t (got Check q) (cond u (andThen (numberIn 0 maxTolerance OutOfRange s q) λ t p. got (Adjust t) p) (andThen (numberIn minMinutes maxMinutes OutOfRange s q) λ m p. got (Wait m) p)) ≡ got k p
-        → KindLow k
-    go true u q e = subst KindLow (got-value e) tt
+        → KindInRange k
+    go true u q e = subst KindInRange (got-value e) tt
     go false true q e =
         let c = came (numberIn 0 maxTolerance OutOfRange s q) _ e in
-        subst KindLow (got-value (c .next)) (in-limits 0 maxTolerance OutOfRange s q (c .first) .1)
+        subst KindInRange (got-value (c .next)) (in-limits 0 maxTolerance OutOfRange s q (c .first) .1)
     go false false q e =
         let c = came (numberIn minMinutes maxMinutes OutOfRange s q) _ e in
-        subst KindLow (got-value (c .next)) (in-limits minMinutes maxMinutes OutOfRange s q (c .first) .1)
+        subst KindInRange (got-value (c .next)) (in-limits minMinutes maxMinutes OutOfRange s q (c .first))
 
 -- name bytes stand one behind the other, within the table
 name-bytes : (s : List ℕ) (k at : ℕ) {l : List ℕ} {e : ℕ} → at ≤ length s → many (nameByteAt s) k at ≡ got l e → (length l ≡ k) × (e ≡ at + k) × (e ≤ length s)
@@ -106,7 +106,7 @@ step-fair s at {st} {p} e =
             some = subst (λ x. minName ≤ x) (sym (name .0)) (lim .0);
             short = subst (λ x. x ≤ maxName) (sym (name .0)) (lim .1);
             inside = subst (λ x. l .place + x ≤ length s) (sym (name .0)) (subst (λ x. x ≤ length s) (name .1) (name .2));
-            kind-low = kind-low s at (k .first);
+            kind-in = kind-in s at (k .first);
           }),
       step-wide at (k .place) (l .place) (l .value) (n .place) p kind (took .1) (lim .1) (name .1) q,
     )

@@ -6,7 +6,7 @@ use Prim.Native.Nat.{ℕ, zero, suc, _+_, _-_, _*_, _≤_, _<_}
 use native.Mathlib.Nat.{not-suc-le-zero, le-of-suc-le-suc}
 use native.Mathlib.Omega.{arith}
 use lib.ListN.{length, getD}
-use Rattle.table.specs.declared.types.Refusal.{Refusal}
+use Rattle.outcome.specs.declared.Refusal.{Refusal}
 use Rattle.table.specs.Number.{Read, got, fault, andThen, judge, many}
 
 pub never : {X : Type 0} {A : Type 0} {r : Refusal} {a : A} {p : ℕ} → fault r ≡ got a p → X

@@ -8,6 +8,8 @@ pub mod WholeLaws
 pub mod InverseLaws
 pub mod PlaceLaws
 pub mod FairLaws
+pub mod WholeReadLaws
+pub mod ArrayLaws
 pub mod AnswerLaws
 pub mod StarredLaws
 pub mod RangeLaws

@@ -7,8 +7,8 @@ use native.Mathlib.Numerals.{sub-one}
 use native.Mathlib.Omega.{arith}
 use lib.ListN.{length, take, drop, replicate, set, length-set, length-replicate}
 use lib.Seq.{drop-set-lt, drop-drop}
-use Rattle.table.specs.declared.types.Refusal.{Refusal}
-use Rattle.table.specs.declared.types.Verdict.the-variants.{Accepted}
+use Rattle.outcome.specs.declared.Refusal.{Refusal}
+use Rattle.outcome.specs.declared.Verdict.the-variants.{Accepted}
 use Rattle.table.specs.Number.{Read, got, fault, many}
 use Rattle.table.specs.Reads.{ListRead}
 use Rattle.table.proofs.ManyLaws.{before, kept-start, kept-next, kept-fault, kept-end}

@@ -7,7 +7,7 @@ use native.Mathlib.Numerals.{sub-one, add-one}
 use native.Mathlib.Omega.{arith}
 use lib.ListN.{length, take, set}
 use lib.Seq.{take-suc-set}
-use Rattle.table.specs.declared.types.Refusal.{Refusal}
+use Rattle.outcome.specs.declared.Refusal.{Refusal}
 use Rattle.table.specs.Number.{Read, got, fault, andThen, many, counted}
 
 -- items that were read, before what is still to come

@@ -4,7 +4,7 @@ use mathlib.Core.List.{List}
 use Prim.Native.Nat.{ℕ, _+_, _≤_, _<_}
 use borrow.Author.Tests.{le-ltb, lt-ltb, le-leb, lt-leb}
 use lib.ListN.{length, getD}
-use Rattle.table.specs.declared.types.Refusal.the-variants.{Cut, BadNameByte}
+use Rattle.outcome.specs.declared.Refusal.the-variants.{Cut, BadNameByte}
 use Rattle.table.specs.Limits.{minNameByte, maxNameByte}
 use Rattle.table.specs.Number.{got, fault, byteAt}
 use Rattle.table.specs.Table.{nameByteAt}

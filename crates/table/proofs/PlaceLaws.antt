@@ -7,8 +7,8 @@ use native.Mathlib.Omega.{arith}
 use borrow.Author.Tests.{ltb-true}
 use lib.Dec.{leb, ltb}
 use lib.ListN.{length, getD}
-use Rattle.table.specs.declared.types.Refusal.{Refusal}
-use Rattle.table.specs.declared.types.Refusal.the-variants.{Cut, Overlong}
+use Rattle.outcome.specs.declared.Refusal.{Refusal}
+use Rattle.outcome.specs.declared.Refusal.the-variants.{Cut, Overlong}
 use Rattle.table.specs.Number.{got, fault, andThen, judge, byteAt, numberAt, numberIn}
 use Rattle.table.proofs.InverseLaws.{never, Came, came, passed, got-place}
 

@@ -12,10 +12,10 @@ use lib.Seq.{take-all, length-take-le, getD-take}
 use Rattle.graph.specs.declared.Edge.{Edge}
 use Rattle.table.specs.declared.types.Kind.{Kind}
 use Rattle.table.specs.declared.types.Step.{Step}
-use Rattle.table.specs.declared.types.Refusal.{Refusal}
-use Rattle.table.specs.declared.types.Refusal.the-variants.{BadEdition, ManySteps, BadKind, OutOfRange, BadNameByte, ManyEdges}
+use Rattle.outcome.specs.declared.Refusal.{Refusal}
+use Rattle.outcome.specs.declared.Refusal.the-variants.{BadEdition, ManySteps, BadKind, OutOfRange, BadNameByte, ManyEdges}
 use Rattle.table.specs.Limits.{edition, maxSteps, maxEdges, maxKind, maxTolerance, minMinutes, maxMinutes, minName, maxName, minNameByte, maxNameByte, minGap, maxGap, maxWeight, numberBytes, stepBytes, edgeBytes, maxTable}
-use Rattle.table.specs.Refusal.{done}
+use Rattle.outcome.specs.Refusal.{done}
 use Rattle.table.specs.Number.{Read, got, fault, andThen, byteAt, numberAt, numberIn, many, counted}
 use Rattle.table.specs.Table.{Contents, adjustAt, waitAt, kindAt, nameByteAt, nameAt, namedAt, stepAt, endAt, edgeBetween, edgeAt, stepsAt, edgesAt, listsAt, tableAt, outcome, read}
 use Rattle.table.proofs.NumberLaws.{in-limits}

@@ -4,8 +4,8 @@ use mathlib.Core.List.{map}
 use Rattle.table.specs.Number.{byteAt, numberAt, numberIn, many}
 use Rattle.table.specs.Table.{adjustAt, waitAt, kindAt, nameByteAt, nameAt, namedAt, stepAt, endAt, edgeBetween, edgeAt, stepsAt, edgesAt, listsAt, tableAt, read}
 use Rattle.table.specs.Calls.{countsCall}
-use Rattle.table.specs.Starred.{Case, tell, starred}
+use Rattle.table.specs.Starred.{Case, starredCounts}
 
-pub starred-hold : map (λ (c : Case). tell (countsCall (c .input))) starred ≡ map (λ (c : Case). c .told) starred
+pub starred-counts : map (λ (c : Case). countsCall (c .input)) starredCounts ≡ map (λ (c : Case). c .expected) starredCounts
 unfolding byteAt numberAt numberIn many adjustAt waitAt kindAt nameByteAt nameAt namedAt stepAt endAt edgeBetween edgeAt stepsAt edgesAt listsAt tableAt read countsCall
-starred-hold = refl
+starred-counts = refl

@@ -3,7 +3,7 @@
 use mathlib.Core.Path.{_≡_, sym, ap, _∙_}
 use mathlib.Core.Bool.{Bool, true, false, _&&_, cond}
 use Prim.Native.Nat.{ℕ}
-use Rattle.table.specs.declared.types.Refusal.{Refusal}
+use Rattle.outcome.specs.declared.Refusal.{Refusal}
 use Rattle.table.specs.Number.{Read, got, fault, andThen, judge}
 
 module _ {A B : Type 0} {x : Read A} (f : A → ℕ → Read B) where

@@ -8,15 +8,16 @@ use lib.ListN.{length, take, take-append-drop}
 use lib.Seq.{length-take-le}
 use Rattle.graph.specs.declared.Edge.{Edge}
 use Rattle.graph.specs.Rows.{noEdge}
-use Rattle.table.specs.declared.types.Refusal.{Refusal}
-use Rattle.table.specs.declared.types.Refusal.the-variants.{Spare}
+use Rattle.outcome.specs.declared.Refusal.{Refusal}
+use Rattle.outcome.specs.declared.Refusal.the-variants.{Spare}
 use Rattle.table.specs.declared.types.Step.{Step}
-use Rattle.table.specs.declared.types.Verdict.{Verdict}
-use Rattle.table.specs.declared.types.Verdict.the-variants.{Accepted, Refused}
+use Rattle.outcome.specs.declared.Verdict.{Verdict}
+use Rattle.outcome.specs.declared.Verdict.the-variants.{Accepted, Refused}
 use Rattle.table.specs.Number.{Read, got, fault}
 use Rattle.table.specs.Table.{stepsAt, edgesAt, listsAt}
 use Rattle.table.specs.Limits.{maxSteps, maxEdges}
-use Rattle.table.specs.Calls.{padded, noStep, tableOf}
+use Rattle.table.specs.Calls.{noStep, tableOf}
+use Rattle.buffers.specs.Padded.{padded}
 use Rattle.table.specs.Reads.{judged, ListRead}
 
 module _ {A : Type 0} {k : ℕ} {blank : A} {what : Read (List A)} {verdict : Verdict} {n : ℕ} {list : List A} {next : ℕ}

@@ -1,34 +1,30 @@
 -- The calls of the reader: what each answers.
 use mathlib.Core.Path.{_≡_}
-use mathlib.Core.List.{List, [], _++_}
-use Prim.Native.Nat.{ℕ, _+_, _-_}
+use mathlib.Core.List.{List, [], _∷_}
+use Prim.Native.Nat.{ℕ, _+_}
 use lib.Dec.{ltb}
-use lib.ListN.{length, getD, take, drop, replicate}
+use lib.ListN.{length, getD, take, drop}
 use denote.Ref.{RefT, now}
 use Rattle.graph.specs.declared.Edge.{Edge}
 use Rattle.graph.specs.Rows.{noEdge}
+use Rattle.buffers.specs.Padded.{padded}
 use Rattle.table.specs.declared.types.Kind.the-variants.{Check}
 use Rattle.table.specs.declared.types.Step.{Step}
 use Rattle.table.specs.declared.types.Table.{Table}
 use Rattle.table.specs.declared.types.TableRead.{TableRead}
-use Rattle.table.specs.declared.types.Counts.{Counts}
 use Rattle.table.specs.declared.types.CountsAnswer.{CountsAnswer}
 use Rattle.table.specs.declared.types.NameAnswer.{NameAnswer}
-use Rattle.table.specs.declared.types.Verdict.the-variants.{Accepted, Refused}
-use Rattle.table.specs.declared.types.Refusal.the-variants.{NoStep}
+use Rattle.outcome.specs.declared.Verdict.the-variants.{Accepted, Refused}
+use Rattle.outcome.specs.declared.Refusal.the-variants.{NoStep}
 use Rattle.table.specs.Limits.{maxSteps, maxEdges}
-use Rattle.table.specs.Refusal.{Outcome, done, refused, thenDo, demand, numberOf}
-use Rattle.table.specs.Table.{Contents, read}
+use Rattle.outcome.specs.Refusal.{Outcome, done, refused, thenDo, demand, numbersOf, told, bare, verdictNumbers}
+use Rattle.table.specs.Table.{Contents, read, contentsOf}
 
 -- ---- a whole table
 
 -- what stands in an array behind its last step
 abbrev pub noStep : Step
 noStep = record { kind = Check; start = 0; len = 0 }
-
--- a list in an array of k entries, of which the others are blank
-unfoldable pub padded : {A : Type 0} → ℕ → A → List A → List A
-padded k blank l = l ++ replicate (k - length l) blank
 
 abbrev pub tableOf : List Step → List Edge → Table
 tableOf steps edges =
@@ -39,20 +35,37 @@ tableOf steps edges =
       edges = padded maxEdges noEdge edges;
     }
 
--- the answer of the call that reads a table
+-- the same as the code's answer: refused, the table is blank
 abbrev pub tableRead : Outcome Contents → TableRead
 tableRead (done t) = record { verdict = Accepted; table = tableOf (t .steps) (t .edges) }
 tableRead (refused r) = record { verdict = Refused r; table = tableOf [] [] }
 
+-- what the call that reads a table answers: its numbers, and the table
+pub record ReadEnd : Type 0 where
+  pub numbers : List ℕ
+  pub table : Table
+
+-- 0 or the refusal's number, and the table that the bytes write down; a refused one is blank
+unfoldable pub readCall : List ℕ → ReadEnd
+readCall bytes = record { numbers = told bare (read bytes); table = tableOf (contentsOf (read bytes) .steps) (contentsOf (read bytes) .edges) }
+
+-- what the code answers, in numbers
+abbrev pub readEnd : TableRead → ReadEnd
+readEnd r = record { numbers = verdictNumbers (r .verdict); table = r .table }
+
 -- ---- counts
 
 -- how many steps and edges a table has
-unfoldable pub countsCall : List ℕ → Outcome Counts
-countsCall bytes = thenDo (read bytes) λ t. done (record { steps = length (t .steps); edges = length (t .edges) })
+abbrev pub countsOf : Contents → List ℕ
+countsOf t = length (t .steps) ∷ length (t .edges) ∷ []
 
-abbrev pub countsAnswer : Outcome Counts → CountsAnswer
-countsAnswer (done c) = CountsAnswer.Counted c
-countsAnswer (refused r) = CountsAnswer.Refused r
+-- 0 and the two counts, or the refusal's number
+unfoldable pub countsCall : List ℕ → List ℕ
+countsCall bytes = told countsOf (read bytes)
+
+abbrev pub countsNumbers : CountsAnswer → List ℕ
+countsNumbers (CountsAnswer.Counted c) = 0 ∷ c .steps ∷ c .edges ∷ []
+countsNumbers (CountsAnswer.Refused r) = numbersOf r
 
 -- ---- the name of a step
 
@@ -64,24 +77,26 @@ pub record Stretch : Type 0 where
 abbrev pub nameOf : Step → Stretch
 nameOf s = record { start = s .start; len = s .len }
 
--- the name of step i: refused as the table is, and then where it has no such step
-unfoldable pub nameCall : List ℕ → ℕ → Outcome Stretch
-nameCall bytes i =
+-- where the name of step i stands: refused as the table is, and then where it has no such step
+unfoldable pub nameFound : List ℕ → ℕ → Outcome Stretch
+nameFound bytes i =
     thenDo (read bytes) λ t. demand (ltb i (length (t .steps))) NoStep (done (nameOf (getD (t .steps) i noStep)))
 
-abbrev pub nameAnswer : Outcome Stretch → NameAnswer
-nameAnswer (done s) = NameAnswer.At (s .start) (s .len)
-nameAnswer (refused r) = NameAnswer.Refused r
+abbrev pub stretchNumbers : Stretch → List ℕ
+stretchNumbers s = s .start ∷ s .len ∷ []
+
+-- 0 with the start and the length, or the refusal's number
+unfoldable pub nameCall : List ℕ → ℕ → List ℕ
+nameCall bytes i = told stretchNumbers (nameFound bytes i)
+
+abbrev pub nameNumbers : NameAnswer → List ℕ
+nameNumbers (NameAnswer.At start len) = 0 ∷ start ∷ len ∷ []
+nameNumbers (NameAnswer.Refused r) = numbersOf r
 
 -- to a caller in the language a refusal is the empty stretch at the table's start: no name is empty
 abbrev pub stretchOf : Outcome Stretch → Stretch
 stretchOf (done s) = s
 stretchOf (refused r) = record { start = 0; len = 0 }
-
--- and another call tells its number, which is 0 where there is a name
-abbrev pub refusalOf : {A : Type 0} → Outcome A → ℕ
-refusalOf (done a) = 0
-refusalOf (refused r) = numberOf r
 
 -- the slice is that stretch of the other one: it lies in the same block of memory, so many bytes on, and has its bytes
 pub record PartOf (whole : RefT (List ℕ)) (s : Stretch) (part : RefT (List ℕ)) : Type 0 where

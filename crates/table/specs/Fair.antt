@@ -8,22 +8,22 @@ use Rattle.graph.specs.Rows.{noEdge}
 use Rattle.table.specs.declared.types.Kind.{Kind}
 use Rattle.table.specs.declared.types.Kind.the-variants.{Check, Adjust, Wait}
 use Rattle.table.specs.declared.types.Step.{Step}
-use Rattle.table.specs.Limits.{maxSteps, maxEdges, maxTolerance, maxMinutes, minName, maxName, minGap, maxGap, maxWeight, maxTable}
+use Rattle.table.specs.Limits.{maxSteps, maxEdges, maxTolerance, minMinutes, maxMinutes, minName, maxName, minGap, maxGap, maxWeight, maxTable}
 use Rattle.table.specs.Table.{Contents}
 use Rattle.table.specs.Calls.{noStep}
 
--- the number that a kind carries, where it carries one, is within its limit
-abbrev pub KindLow : Kind → Type 0
-KindLow Check = Unit {0}
-KindLow (Adjust t) = t ≤ maxTolerance
-KindLow (Wait m) = m ≤ maxMinutes
+-- the number that a kind carries, where it carries one, is within its limits
+abbrev pub KindInRange : Kind → Type 0
+KindInRange Check = Unit {0}
+KindInRange (Adjust t) = t ≤ maxTolerance
+KindInRange (Wait m) = (minMinutes ≤ m) × (m ≤ maxMinutes)
 
 -- a step's name has 1 to 16 bytes and lies within the table, and its kind's number is in range
 pub record FairStep (s : List ℕ) (step : Step) : Type 0 where
   pub some : minName ≤ step .len
   pub short : step .len ≤ maxName
   pub inside : step .start + step .len ≤ length s
-  pub kind-low : KindLow (step .kind)
+  pub kind-in : KindInRange (step .kind)
 
 -- an edge joins two different steps, of n steps, and has a gap and a weight in range
 pub record FairEdge (n : ℕ) (e : Edge) : Type 0 where

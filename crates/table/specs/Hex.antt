@@ -7,11 +7,11 @@ use Prim.Native.String.{String, [], _∷_}
 use lib.Dec.{ltb}
 
 -- 0 to 9 and A to F
-abbrev pub digit : Char → ℕ
-digit c = cond (ltb (code c) 0x41) (code c - 0x30) (code c - 0x37)
+abbrev pub hexDigit : Char → ℕ
+hexDigit c = cond (ltb (code c) 0x41) (code c - 0x30) (code c - 0x37)
 
 abbrev pub hex : String → List ℕ
 hex [] = List.[]
 hex (a ∷ []) = List.[]
-hex (a ∷ b ∷ []) = List._∷_ (16 * digit a + digit b) List.[]
-hex (a ∷ b ∷ c ∷ s) = List._∷_ (16 * digit a + digit b) (hex s)
+hex (a ∷ b ∷ []) = List._∷_ (16 * hexDigit a + hexDigit b) List.[]
+hex (a ∷ b ∷ c ∷ s) = List._∷_ (16 * hexDigit a + hexDigit b) (hex s)

@@ -1,6 +1,5 @@
 -- What the bytes of a table mean, and what each call of the reader makes of them.
 pub mod Limits
-pub mod Refusal
 pub mod Number
 pub mod Table
 pub mod Reads

@@ -4,8 +4,8 @@ use mathlib.Core.List.{List}
 use Prim.Native.Nat.{ℕ, _-_, _≤_}
 use lib.ListN.{length, take, drop, replicate}
 use Rattle.graph.specs.declared.Edge.{Edge}
-use Rattle.table.specs.declared.types.Verdict.{Verdict}
-use Rattle.table.specs.declared.types.Verdict.the-variants.{Accepted, Refused}
+use Rattle.outcome.specs.declared.Verdict.{Verdict}
+use Rattle.outcome.specs.declared.Verdict.the-variants.{Accepted, Refused}
 use Rattle.table.specs.declared.types.Kind.{Kind}
 use Rattle.table.specs.declared.types.Step.{Step}
 use Rattle.table.specs.declared.step.KindRead.{KindRead}

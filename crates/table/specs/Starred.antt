@@ -1,24 +1,23 @@
 -- The starred cases of document 01 that the reader alone decides.
 use mathlib.Core.List.{List, [], _∷_}
 use Prim.Native.Nat.{ℕ}
-use Rattle.table.specs.declared.types.Counts.{Counts}
-use Rattle.table.specs.Refusal.{Outcome, done, refused, numbersOf}
 use Rattle.table.specs.Hex.{hex}
 
--- a table's bytes, and what counting it tells: 0 with the steps and the edges, or the refusal's number
+-- the bytes of a table, and what is expected of them; each list of cases says what that is
 pub record Case : Type 0 where
   pub input : List ℕ
-  pub told : List ℕ
-
-abbrev pub tell : Outcome Counts → List ℕ
-tell (done c) = 0 ∷ c .steps ∷ c .edges ∷ []
-tell (refused r) = numbersOf r
+  pub expected : List ℕ
 
 abbrev pub case : List ℕ → List ℕ → Case
-case input told = record { input = input; told = told }
+case input expected = record { input = input; expected = expected }
 
-abbrev pub starred : List Case
-starred =
+-- the sample table of document 01
+abbrev pub sample : List ℕ
+sample = hex "01 04 02 1E 04 77 61 72 6D 00 04 6C 6F 63 6B 00 05 73 77 65 65 70 01 32 05 6C 65 76 65 6C 04 00 01 01 01 01 02 02 03 00 03 01 01 03 02 01 05"
+
+-- with each table the numbers of the counts call
+abbrev pub starredCounts : List Case
+starredCounts =
     case (hex "01 00 00") (0 ∷ 0 ∷ 0 ∷ []) ∷
     case (hex "81 00 00 00") (0 ∷ 0 ∷ 0 ∷ []) ∷
     case (hex "") (1 ∷ []) ∷

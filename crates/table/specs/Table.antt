@@ -1,6 +1,6 @@
 -- The table of document 01: an edition, the steps behind their count, the edges behind theirs, and no byte more.
 use mathlib.Core.Bool.{not, _&&_, cond}
-use mathlib.Core.List.{List}
+use mathlib.Core.List.{List, []}
 use Prim.Native.Nat.{ℕ}
 use lib.Dec.{leb, ltb, eqb}
 use lib.ListN.{length}
@@ -8,9 +8,9 @@ use Rattle.graph.specs.declared.Edge.{Edge}
 use Rattle.table.specs.declared.types.Kind.{Kind}
 use Rattle.table.specs.declared.types.Kind.the-variants.{Check, Adjust, Wait}
 use Rattle.table.specs.declared.types.Step.{Step}
-use Rattle.table.specs.declared.types.Refusal.the-variants.{BadEdition, ManySteps, BadKind, OutOfRange, BadNameByte, ManyEdges, BadEnd, Spare}
+use Rattle.outcome.specs.declared.Refusal.the-variants.{BadEdition, ManySteps, BadKind, OutOfRange, BadNameByte, ManyEdges, BadEnd, Spare}
 use Rattle.table.specs.Limits.{edition, maxSteps, maxEdges, maxKind, maxTolerance, minMinutes, maxMinutes, minName, maxName, minNameByte, maxNameByte, minGap, maxGap, maxWeight}
-use Rattle.table.specs.Refusal.{Outcome, done, refused}
+use Rattle.outcome.specs.Refusal.{Outcome, done, refused}
 use Rattle.table.specs.Number.{Read, got, fault, andThen, judge, byteAt, numberAt, numberIn, many, counted}
 
 -- what an adjustment adds to its kind
@@ -87,3 +87,8 @@ outcome (fault r) = refused r
 -- what the bytes say, or the first fault
 unfoldable pub read : List ℕ → Outcome Contents
 read s = outcome (tableAt s 0)
+
+-- the steps and edges of a table; none where it is refused
+abbrev pub contentsOf : Outcome Contents → Contents
+contentsOf (done t) = t
+contentsOf (refused r) = record { steps = []; edges = [] }

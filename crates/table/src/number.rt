@@ -1,5 +1,5 @@
 // Numbers of one to three bytes, seven bits in each, lowest group first.
-use crate::types::Refusal;
+use outcome::Refusal;
 ghost use mathlib.Core.Path.{_≡_};
 ghost use Rattle.table.specs.Number.{numberAt, numberIn, numberRead};
 

@@ -2,6 +2,8 @@
 use crate::limits::MAX_EDGES;
 use crate::limits::MAX_STEPS;
 use graph::Edge;
+use outcome::Refusal;
+use outcome::Verdict;
 
 // What a step is, with the number that its kind carries: hundredths of a dB for an adjustment, minutes for a wait.
 pub enum Kind {
@@ -15,33 +17,6 @@ pub struct Step {
     pub kind: Kind,
     pub start: usize,
     pub len: usize,
-}
-
-// Why a call is turned down; `numberOf` in specs/Refusal.antt gives each case its number.
-pub enum Refusal {
-    // The bytes end too early.
-    Cut,
-    // A number of more than three bytes.
-    Overlong,
-    BadEdition,
-    ManySteps,
-    BadKind,
-    OutOfRange,
-    BadNameByte,
-    ManyEdges,
-    BadEnd,
-    // Bytes follow the last edge.
-    Spare,
-    // The edges form a loop: the lowest step on one.
-    Loop(usize),
-    ManyPoints,
-    ShortBuffer,
-    NoStep,
-}
-
-pub enum Verdict {
-    Accepted,
-    Refused(Refusal),
 }
 
 // A table: its first n steps and m edges are there, the others are blank.

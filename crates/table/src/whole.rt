@@ -3,12 +3,12 @@ use crate::lists::blank_edges;
 use crate::lists::blank_steps;
 use crate::lists::edges_at;
 use crate::lists::steps_at;
-use crate::types::Refusal;
 use crate::types::Table;
 use crate::types::TableRead;
-use crate::types::Verdict;
+use outcome::Refusal;
+use outcome::Verdict;
 ghost use mathlib.Core.Path.{_≡_};
-ghost use Rattle.table.specs.Refusal.{refused};
+ghost use Rattle.outcome.specs.Refusal.{refused};
 ghost use Rattle.table.specs.Table.{listsAt, outcome};
 ghost use Rattle.table.specs.Calls.{tableRead};
 

@@ -1,8 +1,9 @@
 -- What was written lies on the page.
 use native.Mathlib.Omega.{arith}
-use mathlib.Core.Path.{sym, _∙_}
+use mathlib.Core.Path.{sym, ap, _∙_}
 use lib.ListN.{replicate}
 use Rattle.listing.specs.Widths.{maxListing}
+use Rattle.listing.specs.Calls.{listingNumbers}
 use Rattle.listing.proofs.CallLaws.{call-fits}
 use Rattle.listing.proofs.PageLaws.{front-long}
 use borrow.Author.Needs.{needs}
@@ -31,10 +32,10 @@ enum-known-len : tie.Need-enum-known-len
 enum-known-len c = search needs
 
 array-share-prefix-page : tie.Need-array-share-prefix-page
-array-share-prefix-page c = let f = call-fits _ (replicate maxListing 0) (sym (c .before .len .given .1) ∙ c .before .before .before .before .write-listing .ensures .0) in omega (arith, f, c .before .before .before .before .write-listing .kept .1 .0)
+array-share-prefix-page c = let f = call-fits _ (replicate maxListing 0) (sym (ap listingNumbers (c .before .len .given .1)) ∙ c .before .before .before .before .write-listing .ensures .0) in omega (arith, f, c .before .before .before .before .write-listing .kept .1 .0)
 
 slice-aggregate-write-all : tie.Need-slice-aggregate-write-all
-slice-aggregate-write-all c = let f = call-fits _ (replicate maxListing 0) (sym (c .before .before .len .given .1) ∙ c .before .before .before .before .before .write-listing .ensures .0) in front-long _ _ (omega (arith, f, c .before .before .before .before .before .write-listing .kept .1 .0))
+slice-aggregate-write-all c = let f = call-fits _ (replicate maxListing 0) (sym (ap listingNumbers (c .before .before .len .given .1)) ∙ c .before .before .before .before .before .write-listing .ensures .0) in front-long _ _ (omega (arith, f, c .before .before .before .before .before .write-listing .kept .1 .0))
 
 write-all-requires : tie.Need-write-all-requires
 write-all-requires c κs = search needs

@@ -1,5 +1,5 @@
 use native.Mathlib.Omega.{arith}
-use Rattle.table.proofs.CallLaws.{number-low}
+use Rattle.outcome.proofs.ToldLaws.{number-low}
 use borrow.Author.Needs.{needs}
 use Rattle.host.proofs.refusal_word.Statement.{statement}
 use Rattle.host.proofs.refusal_word.Tie as tie

@@ -1,67 +1,62 @@
+-- Either answer of `draw_chart` makes its word: the figures are small, and so is the step of a refusal.
+use native.Mathlib.Omega.{arith}
 use mathlib.Core.Path.{sym, ap, _∙_}
-use denote.Ref.{now}
-use mathlib.Core.Path.{subst}
-use Rattle.table.specs.Table.{read}
-use Rattle.ordering.specs.declared.ChartAnswer.{ChartAnswer}
-use Rattle.ordering.specs.Calls.{ChartBest, chartCall}
-use mathlib.Core.List.{List}
-use Prim.Native.Nat.{ℕ}
+use Rattle.ordering.specs.Calls.{chartNumbers}
 use Rattle.ordering.proofs.FigureLaws.{figures-small}
-use Rattle.host.specs.Words.{figuresWord}
-use Rattle.host.proofs.NarrowLaws.{chart-narrow}
-use Rattle.host.proofs.WordLaws.{chart-told, chart-not, chart-best}
+use Rattle.ordering.proofs.StepLaws.{chart-call-step}
+use Rattle.host.proofs.WordLaws.{chart-refused, chart-told, chart-same}
 use borrow.Author.Needs.{needs}
 use Rattle.host.proofs.yuvatondro_chart.Statement.{statement}
 use Rattle.host.proofs.yuvatondro_chart.Tie as tie
-use Rattle.host.proofs.yuvatondro_chart.Reads as reads
-use Rattle.host.proofs.yuvatondro_chart.Lts as lts
-use Rattle.host.proofs.figures_word.Reads as figures-word-reads
-use Rattle.host.proofs.refusal_word.Reads as refusal-word-reads
-use Rattle.ordering.proofs.draw_chart.Reads as draw-chart-reads
 
--- src/lib.rt:81:11
 draw-chart-requires : tie.Need-draw-chart-requires
 draw-chart-requires c κs = search needs
 
--- src/lib.rt:82:30
 enum-known-f : tie.Need-enum-known-f
 enum-known-f c = search needs
 
--- src/lib.rt:82:36
 refusal-word-requires : tie.Need-refusal-word-requires
-refusal-word-requires c κs = chart-narrow (now (c .before .before .before .before .before .before .before .before .before .before .before .before .before .args .table)) (now (c .before .before .before .before .before .before .before .before .before .before .before .before .before .args .rows)) (now (c .before .before .before .before .before .before .before .before .before .before .before .before .before .args .order)) (chart-not (now (c .before .before .before .before .before .before .before .before .before .before .before .before .before .args .table)) (now (c .before .before .before .before .before .before .before .before .before .before .before .before .before .args .rows)) (now (c .before .before .before .before .before .before .before .before .before .before .before .before .before .args .order)) (c .before .before .before .before .before .before .before .draw-chart .ensures .0) (c .before .f .given .1))
+refusal-word-requires c κs =
+    let f = c .before .f .given in
+    omega (arith, chart-call-step _ _ _ (f .0 .0) (sym (ap chartNumbers (f .1)) ∙ c .before .before .before .before .before .before .before .draw-chart .ensures .0))
 
--- src/lib.rt:83:28
 enum-known-f-2 : tie.Need-enum-known-f-2
 enum-known-f-2 c = search needs
 
--- src/lib.rt:83:34
 figures-word-requires : tie.Need-figures-word-requires
-figures-word-requires c κs = figures-small (now (c .before .before .before .before .before .before .before .before .before .before .before .before .before .args .table)) (now (c .before .before .before .before .before .before .before .before .before .before .before .before .before .args .rows)) (now (c .before .before .before .before .before .before .before .before .before .before .before .before .before .args .order)) (c .before .f2 .given .0 .0) (chartCall (now (c .before .before .before .before .before .before .before .before .before .before .before .before .before .args .table)) (now (c .before .before .before .before .before .before .before .before .before .before .before .before .before .args .rows)) (now (c .before .before .before .before .before .before .before .before .before .before .before .before .before .args .order)) .rows) (chart-told (now (c .before .before .before .before .before .before .before .before .before .before .before .before .before .args .table)) (now (c .before .before .before .before .before .before .before .before .before .before .before .before .before .args .rows)) (now (c .before .before .before .before .before .before .before .before .before .before .before .before .before .args .order)) (c .before .before .before .before .before .before .before .draw-chart .ensures .0) (c .before .f2 .given .1)) (subst (λ (x : ChartAnswer). ChartBest (read (now (c .before .before .before .before .before .before .before .before .before .before .before .before .before .args .table))) x (chartCall (now (c .before .before .before .before .before .before .before .before .before .before .before .before .before .args .table)) (now (c .before .before .before .before .before .before .before .before .before .before .before .before .before .args .rows)) (now (c .before .before .before .before .before .before .before .before .before .before .before .before .before .args .order)) .rows)) (c .before .f2 .given .1) (subst (λ (l : List ℕ). ChartBest (read (now (c .before .before .before .before .before .before .before .before .before .before .before .before .before .args .table))) (c .before .before .before .before .before .before .before .draw-chart .result) l) (c .before .before .before .before .before .before .before .draw-chart .ensures .1 .0) (c .before .before .before .before .before .before .before .draw-chart .ensures .1 .1 .1)))
+figures-word-requires c κs =
+    let told = c .before .before .before .before .before .before .before .draw-chart .ensures in
+    let f = c .before .f2 .given in
+    figures-small _ _ _ (f .0 .0) _ (sym (sym (ap chartNumbers (f .1)) ∙ told .0)) (chart-same _ _ (ap chartNumbers (f .1)) (told .1 .1 .1))
 
--- src/lib.rt:74:1
 same-length : tie.Need-same-length
 same-length c = search needs
 
--- src/lib.rt:74:1
 same-length-2 : tie.Need-same-length-2
 same-length-2 c = search needs
 
--- src/lib.rt:74:1
 returns : tie.Need-returns
-returns c = (c .refusal-word .ensures ∙ ap figuresWord (sym (chart-not (now (c .before .before .before .before .before .before .before .before .before .before .before .before .before .before .args .table)) (now (c .before .before .before .before .before .before .before .before .before .before .before .before .before .before .args .rows)) (now (c .before .before .before .before .before .before .before .before .before .before .before .before .before .before .args .order)) (c .before .before .before .before .before .before .before .before .draw-chart .ensures .0) (c .before .before .f .given .1))), (c .before .before .before .before .before .before .before .before .draw-chart .ensures .1 .0, (c .before .before .before .before .before .before .before .before .draw-chart .ensures .1 .1 .0, chart-best (now (c .before .before .before .before .before .before .before .before .before .before .before .before .before .before .args .table)) (now (c .before .before .before .before .before .before .before .before .before .before .before .before .before .before .args .rows)) (now (c .before .before .before .before .before .before .before .before .before .before .before .before .before .before .args .order)) (c .before .before .before .before .before .before .before .before .draw-chart .ensures .0) _ (c .before .before .before .before .before .before .before .before .draw-chart .ensures .1 .1 .1))))
+returns c =
+    let told = c .before .before .before .before .before .before .before .before .draw-chart .ensures in
+    let f = c .before .before .f .given in
+    let e = sym (ap chartNumbers (f .1)) ∙ told .0 in
+    let word = chart-refused (f .0 .0) (omega (arith, chart-call-step _ _ _ (f .0 .0) e)) (c .refusal-word .ensures) e in
+    (word .0, (word .1, (told .1 .0, (told .1 .1 .0, chart-same _ _ (told .0 ∙ sym (word .0)) (told .1 .1 .1)))))
 
--- src/lib.rt:74:1
 same-length-3 : tie.Need-same-length-3
 same-length-3 c = search needs
 
--- src/lib.rt:74:1
 same-length-4 : tie.Need-same-length-4
 same-length-4 c = search needs
 
--- src/lib.rt:74:1
 returns-2 : tie.Need-returns-2
-returns-2 c = (c .figures-word .ensures ∙ ap figuresWord (sym (chart-told (now (c .before .before .before .before .before .before .before .before .before .before .before .before .before .before .args .table)) (now (c .before .before .before .before .before .before .before .before .before .before .before .before .before .before .args .rows)) (now (c .before .before .before .before .before .before .before .before .before .before .before .before .before .before .args .order)) (c .before .before .before .before .before .before .before .before .draw-chart .ensures .0) (c .before .before .f2 .given .1))), (c .before .before .before .before .before .before .before .before .draw-chart .ensures .1 .0, (c .before .before .before .before .before .before .before .before .draw-chart .ensures .1 .1 .0, chart-best (now (c .before .before .before .before .before .before .before .before .before .before .before .before .before .before .args .table)) (now (c .before .before .before .before .before .before .before .before .before .before .before .before .before .before .args .rows)) (now (c .before .before .before .before .before .before .before .before .before .before .before .before .before .before .args .order)) (c .before .before .before .before .before .before .before .before .draw-chart .ensures .0) _ (c .before .before .before .before .before .before .before .before .draw-chart .ensures .1 .1 .1))))
+returns-2 c =
+    let told = c .before .before .before .before .before .before .before .before .draw-chart .ensures in
+    let f = c .before .before .f2 .given in
+    let e = sym (ap chartNumbers (f .1)) ∙ told .0 in
+    let small = figures-small _ _ _ (f .0 .0) _ (sym e) (chart-same _ _ (ap chartNumbers (f .1)) (told .1 .1 .1)) in
+    let word = chart-told (f .0 .0) small (c .figures-word .ensures) e in
+    (word .0, (word .1, (told .1 .0, (told .1 .1 .0, chart-same _ _ (told .0 ∙ sym (word .0)) (told .1 .1 .1)))))
 
 pub yuvatondro-chart-spec : {M : Type 1} → statement M
 yuvatondro-chart-spec =

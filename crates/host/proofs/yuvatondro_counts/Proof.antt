@@ -1,7 +1,14 @@
+-- Either answer of `count_table` makes its word: the counts are small, and a refusal of the reader has no step.
 use native.Mathlib.Omega.{arith}
 use mathlib.Core.Path.{sym, ap, _∙_}
-use Rattle.table.proofs.CallLaws.{alone, counts-told, counts-not, counts-range, counts-low}
-use Rattle.host.specs.Words.{countsWord}
+use Prim.Native.Nat.{_<_}
+use Rattle.outcome.specs.Refusal.{stepOf}
+use Rattle.table.specs.Calls.{countsNumbers}
+use Rattle.host.specs.Words.{second}
+use Rattle.table.proofs.RangeLaws.{read-range}
+use Rattle.outcome.proofs.ToldLaws.{alone}
+use Rattle.table.proofs.CallLaws.{counts-not, counts-low}
+use Rattle.host.proofs.WordLaws.{counts-refused, counts-told}
 use borrow.Author.Needs.{needs}
 use Rattle.host.proofs.yuvatondro_counts.Statement.{statement}
 use Rattle.host.proofs.yuvatondro_counts.Tie as tie
@@ -13,25 +20,38 @@ enum-known-f : tie.Need-enum-known-f
 enum-known-f c = search needs
 
 refusal-word-requires : tie.Need-refusal-word-requires
-refusal-word-requires c κs = omega (arith, alone (c .before .f .given .0 .0) (λ e. omega (arith, counts-range _ (counts-not _ (c .before .before .before .count-table .ensures) (c .before .f .given .1)))))
+refusal-word-requires c κs =
+    let told = c .before .before .before .count-table .ensures in
+    let f = c .before .f .given in
+    omega (arith, alone (f .0 .0) (λ e. omega (arith, read-range _ (counts-not _ told (f .1)))))
 
 enum-known-c : tie.Need-enum-known-c
 enum-known-c c = search needs
 
 mul-result : tie.Need-mul-result
-mul-result c = omega (arith, counts-low _ (counts-told _ (c .before .before .before .before .count-table .ensures) (c .before .before .c .given .1)))
+mul-result c =
+    omega (arith, counts-low _ (c .before .before .before .before .count-table .ensures) (c .before .before .c .given .1))
 
 mul-result-2 : tie.Need-mul-result-2
-mul-result-2 c = omega (arith, counts-low _ (counts-told _ (c .before .before .before .before .before .count-table .ensures) (c .before .before .before .c .given .1)))
+mul-result-2 c =
+    omega (arith, counts-low _ (c .before .before .before .before .before .count-table .ensures) (c .before .before .before .c .given .1))
 
 add-result : tie.Need-add-result
-add-result c = omega (arith, counts-low _ (counts-told _ (c .before .before .before .before .before .count-table .ensures) (c .before .before .before .c .given .1)))
+add-result c =
+    omega (arith, counts-low _ (c .before .before .before .before .before .count-table .ensures) (c .before .before .before .c .given .1))
 
 returns : tie.Need-returns
-returns c = c .refusal-word .ensures ∙ ap countsWord (sym (counts-not _ (c .before .before .before .before .count-table .ensures) (c .before .before .f .given .1)))
+returns c =
+    let told = c .before .before .before .before .count-table .ensures in
+    let f = c .before .before .f .given in
+    let low : stepOf (f .0 .0) < second = omega (arith, alone (f .0 .0) (λ e. omega (arith, read-range _ (counts-not _ told (f .1))))) in
+    counts-refused (f .0 .0) low (c .refusal-word .ensures) (sym (ap countsNumbers (f .1)) ∙ told)
 
 returns-2 : tie.Need-returns-2
-returns-2 c = ap countsWord (sym (counts-told _ (c .before .before .before .before .before .count-table .ensures) (c .before .before .before .c .given .1)))
+returns-2 c =
+    let told = c .before .before .before .before .before .count-table .ensures in
+    let g = c .before .before .before .c .given in
+    counts-told (g .0 .0 .steps) (g .0 .0 .edges) (omega (arith, counts-low _ told (g .1))) (sym (ap countsNumbers (g .1)) ∙ told)
 
 pub yuvatondro-counts-spec : {M : Type 1} → statement M
 yuvatondro-counts-spec =

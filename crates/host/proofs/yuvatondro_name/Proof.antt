@@ -1,10 +1,11 @@
+-- Either answer of `find_name` makes its word: a name is short, and no refusal of the call has a step.
 use native.Mathlib.Omega.{arith}
-use mathlib.Core.Logic.{⊎-elim}
 use mathlib.Core.Path.{sym, ap, _∙_}
+use Rattle.table.specs.Calls.{nameNumbers}
 use Rattle.table.proofs.AnswerLaws.{answer-found, answer-refused}
-use Rattle.table.proofs.RangeLaws.{name-range}
-use Rattle.table.proofs.CallLaws.{alone, name-low}
-use Rattle.host.specs.Words.{nameWord}
+use Rattle.table.proofs.RangeLaws.{name-alone}
+use Rattle.table.proofs.CallLaws.{name-low}
+use Rattle.host.proofs.WordLaws.{name-refused, name-told}
 use borrow.Author.Needs.{needs}
 use Rattle.host.proofs.yuvatondro_name.Statement.{statement}
 use Rattle.host.proofs.yuvatondro_name.Tie as tie
@@ -16,25 +17,37 @@ enum-known-f : tie.Need-enum-known-f
 enum-known-f c = search needs
 
 refusal-word-requires : tie.Need-refusal-word-requires
-refusal-word-requires c κs = omega (arith, alone (c .before .f .given .0 .0) (λ e. ⊎-elim (λ l. omega arith) (λ l. omega arith) (name-range _ _ (answer-refused _ _ (c .before .before .before .find-name .ensures) (c .before .f .given .1)))))
+refusal-word-requires c κs =
+    let f = c .before .f .given in
+    omega (arith, name-alone _ _ (f .0 .0) (answer-refused _ _ (c .before .before .before .find-name .ensures) (f .1)))
 
 enum-known-start : tie.Need-enum-known-start
 enum-known-start c = search needs
 
 mul-result : tie.Need-mul-result
-mul-result c = omega (arith, name-low _ _ (answer-found _ _ (c .before .before .before .find-name .ensures) (c .before .start .given .1)))
+mul-result c =
+    omega (arith, name-low _ _ (answer-found _ _ (c .before .before .before .find-name .ensures) (c .before .start .given .1)))
 
 mul-result-2 : tie.Need-mul-result-2
-mul-result-2 c = omega (arith, name-low _ _ (answer-found _ _ (c .before .before .before .find-name .ensures) (c .before .start .given .1)))
+mul-result-2 c =
+    omega (arith, name-low _ _ (answer-found _ _ (c .before .before .before .find-name .ensures) (c .before .start .given .1)))
 
 add-result : tie.Need-add-result
-add-result c = omega (arith, name-low _ _ (answer-found _ _ (c .before .before .before .find-name .ensures) (c .before .start .given .1)))
+add-result c =
+    omega (arith, name-low _ _ (answer-found _ _ (c .before .before .before .find-name .ensures) (c .before .start .given .1)))
 
 returns : tie.Need-returns
-returns c = c .refusal-word .ensures ∙ ap nameWord (sym (answer-refused _ _ (c .before .before .before .before .find-name .ensures) (c .before .before .f .given .1)))
+returns c =
+    let told = c .before .before .before .before .find-name .ensures in
+    let f = c .before .before .f .given in
+    let step = name-alone _ _ (f .0 .0) (answer-refused _ _ told (f .1)) in
+    name-refused (f .0 .0) (omega (arith, step)) (c .refusal-word .ensures) (sym (ap nameNumbers (f .1)) ∙ told) step
 
 returns-2 : tie.Need-returns-2
-returns-2 c = ap nameWord (sym (answer-found _ _ (c .before .before .before .find-name .ensures) (c .before .start .given .1)))
+returns-2 c =
+    let told = c .before .before .before .find-name .ensures in
+    let g = c .before .start .given in
+    name-told (g .0 .0) (g .0 .1 .0) (omega (arith, name-low _ _ (answer-found _ _ told (g .1)))) (sym (ap nameNumbers (g .1)) ∙ told)
 
 pub yuvatondro-name-spec : {M : Type 1} → statement M
 yuvatondro-name-spec =

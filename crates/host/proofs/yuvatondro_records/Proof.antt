@@ -1,48 +1,46 @@
+-- Either answer makes its word: 0, or a refusal, whose step is low.
+use native.Mathlib.Omega.{arith}
 use mathlib.Core.Path.{sym, ap, _∙_}
-use denote.Ref.{now}
-use Rattle.layering.specs.Calls.{recordsOf, recordCall}
-use Rattle.host.specs.Words.{doneWord}
-use Rattle.host.proofs.NarrowLaws.{record-narrow}
-use Rattle.host.proofs.WordLaws.{told-refused, told-done, records-best, records-refused}
+use Rattle.layering.specs.Calls.{rowsNumbers}
+use Rattle.layering.proofs.StepLaws.{record-call-step}
+use Rattle.host.proofs.WordLaws.{done-refused, done-told, same-told}
 use borrow.Author.Needs.{needs}
 use Rattle.host.proofs.yuvatondro_records.Statement.{statement}
 use Rattle.host.proofs.yuvatondro_records.Tie as tie
-use Rattle.host.proofs.yuvatondro_records.Reads as reads
-use Rattle.host.proofs.yuvatondro_records.Lts as lts
-use Rattle.host.proofs.refusal_word.Reads as refusal-word-reads
-use Rattle.layering.proofs.find_rows_of_numbers.Reads as find-rows-of-numbers-reads
 
--- src/lib.rt:59:11
 find-rows-of-numbers-requires : tie.Need-find-rows-of-numbers-requires
 find-rows-of-numbers-requires c κs = search needs
 
--- src/lib.rt:60:29
 enum-known-f : tie.Need-enum-known-f
 enum-known-f c = search needs
 
--- src/lib.rt:60:35
 refusal-word-requires : tie.Need-refusal-word-requires
-refusal-word-requires c κs = record-narrow (c .before .before .before .before .before .before .before .before .before .args .steps) (recordsOf (now (c .before .before .before .before .before .before .before .before .before .args .records))) (now (c .before .before .before .before .before .before .before .before .before .args .rows)) (told-refused (recordCall (c .before .before .before .before .before .before .before .before .before .args .steps) (recordsOf (now (c .before .before .before .before .before .before .before .before .before .args .records))) (now (c .before .before .before .before .before .before .before .before .before .args .rows)) .answer) (c .before .before .before .before .before .find-rows-of-numbers .ensures .0) (c .before .f .given .1))
+refusal-word-requires c κs =
+    let f = c .before .f .given in
+    omega (arith, record-call-step _ _ _ (f .0 .0) (sym (ap rowsNumbers (f .1)) ∙ c .before .before .before .before .before .find-rows-of-numbers .ensures .0))
 
--- src/lib.rt:61:29
 enum-told : tie.Need-enum-told
 enum-told c = search needs
 
--- src/lib.rt:53:1
 same-length : tie.Need-same-length
 same-length c = search needs
 
--- src/lib.rt:53:1
 returns : tie.Need-returns
-returns c = (c .refusal-word .ensures ∙ ap doneWord (sym (told-refused (recordCall (c .before .before .before .before .before .before .before .before .before .before .args .steps) (recordsOf (now (c .before .before .before .before .before .before .before .before .before .before .args .records))) (now (c .before .before .before .before .before .before .before .before .before .before .args .rows)) .answer) (c .before .before .before .before .before .before .find-rows-of-numbers .ensures .0) (c .before .before .f .given .1))), (c .before .before .before .before .before .before .find-rows-of-numbers .ensures .1 .0, records-refused (c .before .before .before .before .before .before .before .before .before .before .args .steps) (recordsOf (now (c .before .before .before .before .before .before .before .before .before .before .args .records))) _ _ (c .before .before .f .given .0 .0) (c .refusal-word .ensures)))
+returns c =
+    let told = c .before .before .before .before .before .before .find-rows-of-numbers .ensures in
+    let f = c .before .before .f .given in
+    let e = sym (ap rowsNumbers (f .1)) ∙ told .0 in
+    let word = done-refused (f .0 .0) (omega (arith, record-call-step _ _ _ (f .0 .0) e)) (c .refusal-word .ensures) e in
+    (word .0, (word .1, (told .1 .0, same-told (told .0) (word .0) (told .1 .1))))
 
--- src/lib.rt:53:1
 same-length-2 : tie.Need-same-length-2
 same-length-2 c = search needs
 
--- src/lib.rt:53:1
 returns-2 : tie.Need-returns-2
-returns-2 c = (sym (told-done (recordCall (c .before .before .before .before .before .before .before .before .args .steps) (recordsOf (now (c .before .before .before .before .before .before .before .before .args .records))) (now (c .before .before .before .before .before .before .before .before .args .rows)) .answer) (c .before .before .before .before .find-rows-of-numbers .ensures .0) (c .enum-told .given .1)), (c .before .before .before .before .find-rows-of-numbers .ensures .1 .0, records-best (c .before .before .before .before .before .before .before .before .args .steps) (recordsOf (now (c .before .before .before .before .before .before .before .before .args .records))) _ _ (c .enum-told .given .1) (c .before .before .before .before .find-rows-of-numbers .ensures .1 .1)))
+returns-2 c =
+    let told = c .before .before .before .before .find-rows-of-numbers .ensures in
+    let word = done-told (sym (ap rowsNumbers (c .enum-told .given .1)) ∙ told .0) in
+    (word .0, (word .1, (told .1 .0, same-told (told .0) (word .0) (told .1 .1))))
 
 pub yuvatondro-records-spec : {M : Type 1} → statement M
 yuvatondro-records-spec =

@@ -1,49 +1,46 @@
+-- Either answer makes its word: 0, or a refusal, whose step is low.
+use native.Mathlib.Omega.{arith}
 use mathlib.Core.Path.{sym, ap, _∙_}
-use denote.Ref.{now}
-use Rattle.table.specs.Table.{read}
-use Rattle.layering.specs.Calls.{rowsCall}
-use Rattle.host.specs.Words.{doneWord}
-use Rattle.host.proofs.NarrowLaws.{rows-narrow}
-use Rattle.host.proofs.WordLaws.{told-refused, told-done, table-best, table-refused}
+use Rattle.layering.specs.Calls.{rowsNumbers}
+use Rattle.layering.proofs.StepLaws.{rows-call-step}
+use Rattle.host.proofs.WordLaws.{done-refused, done-told, same-told}
 use borrow.Author.Needs.{needs}
 use Rattle.host.proofs.yuvatondro_rows.Statement.{statement}
 use Rattle.host.proofs.yuvatondro_rows.Tie as tie
-use Rattle.host.proofs.yuvatondro_rows.Reads as reads
-use Rattle.host.proofs.yuvatondro_rows.Lts as lts
-use Rattle.host.proofs.refusal_word.Reads as refusal-word-reads
-use Rattle.layering.proofs.find_rows.Reads as find-rows-reads
 
--- src/lib.rt:46:11
 find-rows-requires : tie.Need-find-rows-requires
 find-rows-requires c κs = search needs
 
--- src/lib.rt:47:29
 enum-known-f : tie.Need-enum-known-f
 enum-known-f c = search needs
 
--- src/lib.rt:47:35
 refusal-word-requires : tie.Need-refusal-word-requires
-refusal-word-requires c κs = rows-narrow (now (c .before .before .before .before .before .before .before .before .before .args .table)) (now (c .before .before .before .before .before .before .before .before .before .args .rows)) (told-refused (rowsCall (now (c .before .before .before .before .before .before .before .before .before .args .table)) (now (c .before .before .before .before .before .before .before .before .before .args .rows)) .answer) (c .before .before .before .before .before .find-rows .ensures .0) (c .before .f .given .1))
+refusal-word-requires c κs =
+    let f = c .before .f .given in
+    omega (arith, rows-call-step _ _ (f .0 .0) (sym (ap rowsNumbers (f .1)) ∙ c .before .before .before .before .before .find-rows .ensures .0))
 
--- src/lib.rt:48:29
 enum-told : tie.Need-enum-told
 enum-told c = search needs
 
--- src/lib.rt:40:1
 same-length : tie.Need-same-length
 same-length c = search needs
 
--- src/lib.rt:40:1
 returns : tie.Need-returns
-returns c = (c .refusal-word .ensures ∙ ap doneWord (sym (told-refused (rowsCall (now (c .before .before .before .before .before .before .before .before .before .before .args .table)) (now (c .before .before .before .before .before .before .before .before .before .before .args .rows)) .answer) (c .before .before .before .before .before .before .find-rows .ensures .0) (c .before .before .f .given .1))), (c .before .before .before .before .before .before .find-rows .ensures .1 .0, table-refused (read (now (c .before .before .before .before .before .before .before .before .before .before .args .table))) _ _ (c .before .before .f .given .0 .0) (c .refusal-word .ensures)))
+returns c =
+    let told = c .before .before .before .before .before .before .find-rows .ensures in
+    let f = c .before .before .f .given in
+    let e = sym (ap rowsNumbers (f .1)) ∙ told .0 in
+    let word = done-refused (f .0 .0) (omega (arith, rows-call-step _ _ (f .0 .0) e)) (c .refusal-word .ensures) e in
+    (word .0, (word .1, (told .1 .0, same-told (told .0) (word .0) (told .1 .1))))
 
--- src/lib.rt:40:1
 same-length-2 : tie.Need-same-length-2
 same-length-2 c = search needs
 
--- src/lib.rt:40:1
 returns-2 : tie.Need-returns-2
-returns-2 c = (sym (told-done (rowsCall (now (c .before .before .before .before .before .before .before .before .args .table)) (now (c .before .before .before .before .before .before .before .before .args .rows)) .answer) (c .before .before .before .before .find-rows .ensures .0) (c .enum-told .given .1)), (c .before .before .before .before .find-rows .ensures .1 .0, table-best (read (now (c .before .before .before .before .before .before .before .before .args .table))) _ _ (c .enum-told .given .1) (c .before .before .before .before .find-rows .ensures .1 .1)))
+returns-2 c =
+    let told = c .before .before .before .before .find-rows .ensures in
+    let word = done-told (sym (ap rowsNumbers (c .enum-told .given .1)) ∙ told .0) in
+    (word .0, (word .1, (told .1 .0, same-told (told .0) (word .0) (told .1 .1))))
 
 pub yuvatondro-rows-spec : {M : Type 1} → statement M
 yuvatondro-rows-spec =

@@ -1,10 +1,7 @@
 -- What was found is handed out, and that is what the call is to make of the bytes.
-use mathlib.Core.Path.{sym, ap, subst, _∙_}
-use denote.Ref.{now}
-use Rattle.table.specs.Table.{read}
-use Rattle.table.specs.declared.types.Table.{Table}
-use Rattle.layering.specs.Placed.{Low}
-use Rattle.layering.proofs.CallLaws.{table-steps, table-call}
+use mathlib.Core.Path.{sym, subst}
+use Rattle.layering.specs.Placed.{RowsStorable}
+use Rattle.layering.proofs.CallLaws.{table-found, table-steps, table-call}
 use borrow.Author.Needs.{needs}
 use Rattle.layering.proofs.find_rows.Statement.{statement}
 use Rattle.layering.proofs.find_rows.Tie as tie
@@ -13,13 +10,13 @@ place-table-requires : tie.Need-place-table-requires
 place-table-requires c κs = search needs
 
 hand-out-requires : tie.Need-hand-out-requires
-hand-out-requires c κs = let p = c .before .before .place-table in subst (λ k. Low k (p .result .found)) (sym (ap (λ (t : Table). t .n) (p .ensures .0) ∙ table-steps (read (now (c .before .before .before .before .before .args .bytes))))) (p .ensures .1 .low)
+hand-out-requires c κs = let p = c .before .before .place-table in subst (λ k. RowsStorable k (p .result .found)) (sym (table-steps _ (p .result) (p .ensures .0) (p .ensures .1))) (table-found _ (p .result) (p .ensures .0) (p .ensures .1) .low)
 
 same-length : tie.Need-same-length
 same-length c = search needs
 
 returns : tie.Need-returns
-returns c = let p = c .before .before .before .before .before .place-table in table-call _ _ _ _ _ _ (ap (λ (t : Table). t .n) (p .ensures .0) ∙ table-steps (read (now (c .before .before .before .before .before .before .before .before .args .bytes)))) (p .ensures .1) (c .before .before .hand-out .ensures)
+returns c = let p = c .before .before .before .before .before .place-table in table-call _ _ _ _ _ _ (table-steps _ (p .result) (p .ensures .0) (p .ensures .1)) (table-found _ (p .result) (p .ensures .0) (p .ensures .1)) (c .before .before .hand-out .ensures)
 
 pub find-rows-spec : {M : Type 1} → statement M
 find-rows-spec = tie.close (tie.spec place-table-requires hand-out-requires same-length returns)

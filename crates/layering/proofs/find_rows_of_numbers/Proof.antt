@@ -1,23 +1,24 @@
--- What is answered of the array is answered of the edges that the numbers write down.
+-- What is answered of the arrays is answered of the edges that the numbers write down.
 use mathlib.Core.Path.{sym}
 use denote.Ref.{now}
+use Rattle.layering.proofs.FlattenLaws.{flattened-full}
 use Rattle.layering.proofs.RecordLaws.{records-length}
 use borrow.Author.Needs.{needs}
 use Rattle.layering.proofs.find_rows_of_numbers.Statement.{statement}
 use Rattle.layering.proofs.find_rows_of_numbers.Tie as tie
 
-collect-numbers-requires : tie.Need-collect-numbers-requires
-collect-numbers-requires c κs = search needs
+flatten-numbers-requires : tie.Need-flatten-numbers-requires
+flatten-numbers-requires c κs = search needs
 
 answer-lent-requires : tie.Need-answer-lent-requires
-answer-lent-requires c κs = c .before .collect-numbers .ensures .long
+answer-lent-requires c κs = flattened-full _ (c .before .flatten-numbers .ensures)
 
 same-length : tie.Need-same-length
 same-length c = search needs
 
 returns : tie.Need-returns
-returns c = c .before .before .answer-lent .ensures .answered _ (sym (records-length (now (c .before .before .before .before .before .before .before .args .numbers)))) (c .before .before .before .before .collect-numbers .ensures)
+returns c = c .before .before .answer-lent .ensures .answered _ (sym (records-length (now (c .before .before .before .before .before .before .before .args .numbers)))) (c .before .before .before .before .flatten-numbers .ensures)
 
 pub find-rows-of-numbers-spec : {M : Type 1} → statement M
 find-rows-of-numbers-spec =
-    tie.close (tie.spec collect-numbers-requires answer-lent-requires same-length returns)
+    tie.close (tie.spec flatten-numbers-requires answer-lent-requires same-length returns)

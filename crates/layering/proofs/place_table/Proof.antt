@@ -1,9 +1,10 @@
--- A refused table has no rows; the arrays of an accepted one hold its edges, which are fair.
+-- A refused table has no rows; the flat arrays of an accepted one hold its edges, which are fair.
 use mathlib.Core.Path.{ap}
-use Rattle.table.specs.declared.types.TableRead.{TableRead}
-use Rattle.table.proofs.AnswerLaws.{told-refused, told}
+use Rattle.table.specs.Calls.{ReadEnd}
+use Rattle.table.proofs.AnswerLaws.{read-refused, read-accepted}
+use Rattle.layering.proofs.FlattenLaws.{flattened-full, flattened-fair, flattened-placed}
 use Rattle.layering.proofs.PlaceLaws.{placed-refused}
-use Rattle.layering.proofs.CallLaws.{table-few, table-long, table-fair, table-placed, table-refused}
+use Rattle.layering.proofs.CallLaws.{table-few, table-long, table-fair, table-placed, table-refused, table-end}
 use borrow.Author.Needs.{needs}
 use Rattle.layering.proofs.place_table.Statement.{statement}
 use Rattle.layering.proofs.place_table.Tie as tie
@@ -20,14 +21,17 @@ refuse-rows-requires c κs = search needs
 enum-told : tie.Need-enum-told
 enum-told c = search needs
 
+flatten-edges-requires : tie.Need-flatten-edges-requires
+flatten-edges-requires c κs = let t = read-accepted _ _ (c .before .before .before .before .read-table .ensures) (c .before .enum-told .given .1) in (table-few _ _ t, table-long _ _ t)
+
 place-edges-requires : tie.Need-place-edges-requires
-place-edges-requires c κs = let t = told _ _ (c .before .before .before .before .read-table .ensures) (c .before .enum-told .given .1) in (table-fair _ _ t, (table-few _ _ t, table-long _ _ t))
+place-edges-requires c κs = let t = read-accepted _ _ (c .before .before .before .before .before .read-table .ensures) (c .before .before .enum-told .given .1) in let f = c .flatten-edges .ensures in (flattened-fair _ f _ (table-fair _ _ t), (table-few _ _ t, flattened-full _ f))
 
 returns : tie.Need-returns
-returns c = let e = c .before .before .before .before .before .read-table .ensures in let r = c .refuse-rows .ensures in (ap (λ (x : TableRead). x .table) e, placed-refused _ _ _ _ (r .0) (r .1) (table-refused _ (told-refused _ _ e (c .before .before .verdict .given .1))))
+returns c = let e = c .before .before .before .before .before .read-table .ensures in let r = c .refuse-rows .ensures in table-end _ _ (ap (λ (x : ReadEnd). x .table) e) (placed-refused _ _ _ _ r (table-refused _ (read-refused _ _ e (c .before .before .verdict .given .1))))
 
 returns-2 : tie.Need-returns-2
-returns-2 c = let e = c .before .before .before .before .before .read-table .ensures in (ap (λ (x : TableRead). x .table) e, table-placed _ _ (told _ _ e (c .before .before .enum-told .given .1)) (c .place-edges .ensures))
+returns-2 c = let e = c .before .before .before .before .before .before .read-table .ensures in let t = read-accepted _ _ e (c .before .before .before .enum-told .given .1) in table-end _ _ (ap (λ (x : ReadEnd). x .table) e) (table-placed _ _ t (flattened-placed _ (c .before .flatten-edges .ensures) _ _ (c .place-edges .ensures)))
 
 pub place-table-spec : {M : Type 1} → statement M
 place-table-spec =
@@ -37,6 +41,7 @@ place-table-spec =
     enum-known-verdict
     refuse-rows-requires
     enum-told
+    flatten-edges-requires
     place-edges-requires
     returns
     returns-2)

@@ -1,5 +1,6 @@
 -- A table or rows that are refused have no chart; the arrays of others hold the edges and their best rows.
-use Rattle.ordering.proofs.CallLaws.{table-refused, taken, table-few, table-long, table-solved, table-found}
+use Rattle.layering.proofs.CallLaws.{table-here, table-found}
+use Rattle.ordering.proofs.CallLaws.{table-refused, taken, table-few, table-long, table-solved, table-drawn, chart-end}
 use borrow.Author.Needs.{needs}
 use Rattle.ordering.proofs.chart_table.Statement.{statement}
 use Rattle.ordering.proofs.chart_table.Tie as tie
@@ -17,13 +18,13 @@ enum-told : tie.Need-enum-told
 enum-told c = search needs
 
 draw-edges-requires : tie.Need-draw-edges-requires
-draw-edges-requires c κs = let p = c .before .before .before .before .before .before .place-table .ensures in let a = c .before .before .enum-told .given .1 in let t = taken _ _ _ (p .0) (p .1) a in (table-solved _ _ _ (p .0) (p .1) a t, (table-few _ _ _ (p .0) (p .1) a t, table-long _ _ _ (p .0) (p .1) a t))
+draw-edges-requires c κs = let p = c .before .before .before .before .before .before .place-table in let same = table-here _ (p .result) (p .ensures .0) (p .ensures .1) in let placed = table-found _ (p .result) (p .ensures .0) (p .ensures .1) in let a = c .before .before .enum-told .given .1 in let t = taken _ _ _ same placed a in (table-solved _ _ _ same placed a t, (table-few _ _ _ same placed a t, table-long _ _ _ same placed a t))
 
 returns : tie.Need-returns
-returns c = let p = c .before .before .before .before .before .before .place-table .ensures in (p .0, table-refused _ _ _ (p .0) (p .1) (c .before .before .verdict .given .1) _ (c .refuse-chart .ensures))
+returns c = let p = c .before .before .before .before .before .before .place-table in let same = table-here _ (p .result) (p .ensures .0) (p .ensures .1) in let placed = table-found _ (p .result) (p .ensures .0) (p .ensures .1) in let found = table-refused _ _ _ same placed (c .before .before .verdict .given .1) _ (c .refuse-chart .ensures) in (chart-end _ _ same found, found)
 
 returns-2 : tie.Need-returns-2
-returns-2 c = let p = c .before .before .before .before .before .before .before .place-table .ensures in let a = c .before .before .before .enum-told .given .1 in (p .0, table-found _ _ _ (p .0) (p .1) a (taken _ _ _ (p .0) (p .1) a) _ (c .draw-edges .ensures))
+returns-2 c = let p = c .before .before .before .before .before .before .before .place-table in let same = table-here _ (p .result) (p .ensures .0) (p .ensures .1) in let placed = table-found _ (p .result) (p .ensures .0) (p .ensures .1) in let a = c .before .before .before .enum-told .given .1 in let found = table-drawn _ _ _ same placed a (taken _ _ _ same placed a) _ (c .draw-edges .ensures) in (chart-end _ _ same found, found)
 
 pub chart-table-spec : {M : Type 1} → statement M
 chart-table-spec =

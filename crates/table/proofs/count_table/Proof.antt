@@ -1,5 +1,5 @@
 -- `count_table` meets its contract: the verdict tells the outcome, and the counts are the lengths of the lists.
-use Rattle.table.proofs.AnswerLaws.{told-refused, told, counted, counts-refused}
+use Rattle.table.proofs.AnswerLaws.{read-refused, read-accepted, counted, counts-refused}
 use Rattle.table.proofs.count_table.Statement.{statement}
 use Rattle.table.proofs.count_table.Tie as tie
 
@@ -13,10 +13,10 @@ enum-told : tie.Need-enum-told
 enum-told c = c .match .keys2
 
 returns : tie.Need-returns
-returns c = counts-refused _ (told-refused _ _ (c .before .before .before .read-table .ensures) (c .before .verdict .given .1))
+returns c = counts-refused _ (read-refused _ _ (c .before .before .before .read-table .ensures) (c .before .verdict .given .1))
 
 returns-2 : tie.Need-returns-2
-returns-2 c = counted _ _ (told _ _ (c .before .before .read-table .ensures) (c .enum-told .given .1))
+returns-2 c = counted _ _ (read-accepted _ _ (c .before .before .read-table .ensures) (c .enum-told .given .1))
 
 pub count-table-spec : {M : Type 1} → statement M
 count-table-spec =

@@ -2,7 +2,7 @@
 use native.Mathlib.Nat.{le-trans, lt-of-lt-of-le}
 use lib.Dec.{lit≤}
 use Rattle.table.proofs.FitLaws.{scaled}
-use Rattle.table.proofs.AnswerLaws.{told-refused, told, missing, found, few, name-refused}
+use Rattle.table.proofs.AnswerLaws.{read-refused, read-accepted, missing, found, few, name-refused}
 use Rattle.table.proofs.find_name.Statement.{statement}
 use Rattle.table.proofs.find_name.Tie as tie
 
@@ -16,19 +16,19 @@ enum-told : tie.Need-enum-told
 enum-told c = c .match .keys2
 
 returns : tie.Need-returns
-returns c = missing _ _ (told _ _ (c .before .before .before .before .read-table .ensures) (c .before .before .enum-told .given .1)) _ (c .if1 .taken)
+returns c = missing _ _ (read-accepted _ _ (c .before .before .before .before .read-table .ensures) (c .before .before .enum-told .given .1)) _ (c .if1 .taken)
 
 mul-step : tie.Need-mul-step
-mul-step c = scaled _ _ (c .if1 .left) (le-trans (few _ _ (told _ _ (c .before .before .before .before .read-table .ensures) (c .before .before .enum-told .given .1))) (lit≤ tt))
+mul-step c = scaled _ _ (c .if1 .left) (le-trans (few _ _ (read-accepted _ _ (c .before .before .before .before .read-table .ensures) (c .before .before .enum-told .given .1))) (lit≤ tt))
 
 element-copy-out-step : tie.Need-element-copy-out-step
-element-copy-out-step c = lt-of-lt-of-le (c .if1 .left) (few _ _ (told _ _ (c .before .before .before .before .read-table .ensures) (c .before .before .enum-told .given .1)))
+element-copy-out-step c = lt-of-lt-of-le (c .if1 .left) (few _ _ (read-accepted _ _ (c .before .before .before .before .read-table .ensures) (c .before .before .enum-told .given .1)))
 
 returns-2 : tie.Need-returns-2
-returns-2 c = name-refused _ (told-refused _ _ (c .before .before .before .read-table .ensures) (c .before .verdict .given .1)) _
+returns-2 c = name-refused _ (read-refused _ _ (c .before .before .before .read-table .ensures) (c .before .verdict .given .1)) _
 
 returns-3 : tie.Need-returns-3
-returns-3 c = found _ _ (told _ _ (c .before .before .before .before .before .read-table .ensures) (c .before .before .before .enum-told .given .1)) _ (c .before .if1 .left)
+returns-3 c = found _ _ (read-accepted _ _ (c .before .before .before .before .before .read-table .ensures) (c .before .before .before .enum-told .given .1)) _ (c .before .if1 .left)
 
 pub find-name-spec : {M : Type 1} → statement M
 find-name-spec =

@@ -4,6 +4,7 @@ use Rattle.table.specs.Table.{tableAt, read, outcome}
 use Rattle.table.specs.Number.{numberRead}
 use Rattle.table.specs.Calls.{tableRead}
 use Rattle.table.proofs.ThenLaws.{then-fault, then-got}
+use Rattle.table.proofs.WholeReadLaws.{whole-read}
 use Rattle.table.proofs.read_table.Statement.{statement}
 use Rattle.table.proofs.read_table.Tie as tie
 
@@ -24,11 +25,11 @@ read-lists-requires c κs = tt
 
 returns : tie.Need-returns
 unfolding read tableAt
-returns c = c .refuse-table .ensures ∙ ap (λ x. tableRead (outcome x)) (then-fault _ (sym (c .before .before .before .before .number-in .ensures) ∙ ap numberRead (c .before .before .f .given .1)))
+returns c = whole-read _ (c .refuse-table .ensures ∙ ap (λ x. tableRead (outcome x)) (then-fault _ (sym (c .before .before .before .before .number-in .ensures) ∙ ap numberRead (c .before .before .f .given .1))))
 
 returns-2 : tie.Need-returns-2
 unfolding read tableAt
-returns-2 c = c .read-lists .ensures ∙ ap (λ x. tableRead (outcome x)) (then-got _ (sym (c .before .before .before .before .number-in .ensures) ∙ ap numberRead (c .before .before .at .given .1)) refl)
+returns-2 c = whole-read _ (c .read-lists .ensures ∙ ap (λ x. tableRead (outcome x)) (then-got _ (sym (c .before .before .before .before .number-in .ensures) ∙ ap numberRead (c .before .before .at .given .1)) refl))
 
 pub read-table-spec : {M : Type 1} → statement M
 read-table-spec =

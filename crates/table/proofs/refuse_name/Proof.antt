@@ -1,7 +1,7 @@
--- `refuse_name` meets its contract: the answer of `find_name` tells the outcome, and that its number.
+-- `refuse_name` meets its contract: the first of the numbers of `find_name`.
 use mathlib.Core.Path.{sym, ap, _∙_}
-use Rattle.table.specs.Calls.{refusalOf}
-use Rattle.table.proofs.AnswerLaws.{answer-refused, answer-found}
+use Rattle.outcome.specs.Refusal.{refusalIn}
+use Rattle.table.specs.Calls.{nameNumbers}
 use Rattle.table.proofs.refuse_name.Statement.{statement}
 use Rattle.table.proofs.refuse_name.Tie as tie
 
@@ -18,10 +18,10 @@ enum-told : tie.Need-enum-told
 enum-told c = c .match .keys2
 
 returns : tie.Need-returns
-returns c = c .number-of .ensures ∙ ap refusalOf (sym (answer-refused _ _ (c .before .before .before .before .find-name .ensures) (c .before .before .f .given .1)))
+returns c = c .number-of .ensures ∙ ap refusalIn (sym (ap nameNumbers (c .before .before .f .given .1)) ∙ c .before .before .before .before .find-name .ensures)
 
 returns-2 : tie.Need-returns-2
-returns-2 c = ap refusalOf (sym (answer-found _ _ (c .before .before .find-name .ensures) (c .enum-told .given .1)))
+returns-2 c = ap refusalIn (sym (ap nameNumbers (c .enum-told .given .1)) ∙ c .before .before .find-name .ensures)
 
 pub refuse-name-spec : {M : Type 1} → statement M
 refuse-name-spec =

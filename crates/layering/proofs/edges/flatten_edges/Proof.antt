@@ -54,7 +54,7 @@ loop-again : tie.Need-loop-again Inv-loop μ-loop
 loop-again c = (flattening-more _ _ _ _ _ _ (c .before .before .loop .inv .0) (omega arith), omega arith)
 
 returns : tie.Need-returns Inv-loop μ-loop
-returns c = let s = c .before .before in flattening-all _ _ _ _ _ _ (c .before .loop .inv .0) (s .args .m) (omega arith) (s .pre .0) (s .pre .1)
+returns c = let s = c .before .before in flattening-all _ _ _ _ _ _ (c .before .loop .inv .0) (s .args .m) (omega arith) (s .pre .0) (omega (arith, s .pre))
 
 pub flatten-edges-spec : {M : Type 1} → statement M
 flatten-edges-spec =

@@ -1,4 +1,4 @@
--- What was found is handed out, whatever edges the array was made of.
+-- What was found is handed out, whatever edges the arrays were made of.
 use Rattle.layering.proofs.LentLaws.{lent-answered}
 use borrow.Author.Needs.{needs}
 use Rattle.layering.proofs.lent.answer_lent.Statement.{statement}

@@ -4,7 +4,7 @@ use mathlib.Core.Path.{subst}
 use borrow.Author.Needs.{needs}
 use denote.Ref.{now}
 use Rattle.layering.specs.Scan.{SettlingIs}
-use Rattle.network.specs.Network.{edgesOf}
+use Rattle.relaxation.specs.Network.{edgesOf}
 use Rattle.layering.specs.declared.settle.Found.the-variants.{Nothing}
 use Rattle.layering.proofs.FoundLaws.{found-is, found-ends}
 use Rattle.layering.proofs.SettleLaws.{rests-free}

@@ -11,8 +11,8 @@ use denote.Ref.{now}
 use Rattle.graph.specs.declared.Edge.{Edge}
 use Rattle.layering.specs.Scan.{Nowhere, ScanIs, Open}
 use Rattle.layering.specs.Loops.{Walk}
-use Rattle.network.specs.Network.{edgesOf}
-use Rattle.layering.specs.Flat.{Ends}
+use Rattle.relaxation.specs.Network.{edgesOf}
+use Rattle.layering.specs.Flat.{NodeEnds}
 use Rattle.layering.proofs.MarkLaws.{Sound, sound-blank, sound-more, open-walk, no-return}
 use Rattle.layering.proofs.ScanLaws.{ends-up}
 use Rattle.layering.proofs.SetLaws.{room, room-set}
@@ -67,7 +67,7 @@ outer c = c .before .before .before .before .before .before .loop .inv .1
 fits : (c : S2) → start c .args .n ≤ length (c .loop2 .seen)
 fits c = omega arith
 
-ends : (c : S2) → Ends (length (c .loop2 .seen)) (F c) (T c)
+ends : (c : S2) → NodeEnds (length (c .loop2 .seen)) (F c) (T c)
 ends c = ends-up (fits c) (start c .pre .0)
 
 -- the open edge of a turn

@@ -41,7 +41,7 @@ total-rows-requires : tie.Need-total-rows-requires
 total-rows-requires c κs = let s = c .before .before .before .before .before .before .before .before .before .before .before .before .before in solved-summable _ _ _ _ _ (s .pre .0) (s .pre .1) _ (c .before .solve-rows .ensures)
 
 returns : tie.Need-returns
-returns c = let s = c .before .before .before .before .before .before .before .before .before .before .before .before .before in let r = c .refuse-rows in placed-refused _ _ _ _ (r .ensures .0) (r .ensures .1) (placed-loop _ _ _ _ _ (s .pre .0) (s .pre .1) _ (c .before .before .before .before .before .before .find-loop .ensures) (c .before .before .s .given .1))
+returns c = let s = c .before .before .before .before .before .before .before .before .before .before .before .before .before in let r = c .refuse-rows in placed-refused _ _ _ _ (r .ensures) (placed-loop _ _ _ _ _ (s .pre .0) (s .pre .1) _ (c .before .before .before .before .before .before .find-loop .ensures) (c .before .before .s .given .1))
 
 returns-2 : tie.Need-returns-2
 returns-2 c = let s = c .before .before .before .before .before .before .before .before .before .before .before .before .before .before in placed-done _ _ _ _ _ (s .pre .0) (s .pre .1) _ (c .before .before .before .before .before .before .before .find-loop .ensures) (c .before .before .before .enum-told .given .1) _ _ (c .before .before .solve-rows .ensures) (c .total-rows .ensures ∙ total-gaps _ _ _ _ _ _)

@@ -3,7 +3,7 @@ use mathlib.Core.Path.{sym}
 use denote.Ref.{now}
 use lib.ListN.{length}
 use Rattle.table.specs.Limits.{maxSteps, maxEdges}
-use Rattle.layering.proofs.PlaceLaws.{part-count, scratch-fits}
+use Rattle.layering.proofs.PlaceLaws.{part-count, scratch-fits, solved-rows}
 use borrow.Author.Needs.{needs}
 use Rattle.layering.proofs.place.solve_rows.Statement.{statement}
 use Rattle.layering.proofs.place.solve_rows.Tie as tie
@@ -15,37 +15,49 @@ array-borrow-prefix-flow : tie.Need-array-borrow-prefix-flow
 array-borrow-prefix-flow c = search needs
 
 slice-aggregate-solve-2 : tie.Need-slice-aggregate-solve-2
-slice-aggregate-solve-2 c = sym (part-count (length (now (c .before .before .before .before .before .before .args .from))) maxEdges (c .before .before .before .before .before .before .pre .1 .1 .1))
+slice-aggregate-solve-2 c =
+    let start = c .before .before .before .before .before .before in
+    sym (part-count (length (now (start .args .from))) maxEdges (start .pre .1 .1 .1))
 
 array-borrow-prefix-rank : tie.Need-array-borrow-prefix-rank
 array-borrow-prefix-rank c = search needs
 
 slice-aggregate-solve-3 : tie.Need-slice-aggregate-solve-3
-slice-aggregate-solve-3 c = sym (part-count (c .before .before .before .before .before .before .before .args .n) maxSteps (c .before .before .before .before .before .before .before .pre .1 .1 .0))
+slice-aggregate-solve-3 c =
+    let start = c .before .before .before .before .before .before .before in
+    sym (part-count (start .args .n) maxSteps (start .pre .1 .1 .0))
 
 array-borrow-prefix-parent : tie.Need-array-borrow-prefix-parent
 array-borrow-prefix-parent c = search needs
 
 slice-aggregate-solve-4 : tie.Need-slice-aggregate-solve-4
-slice-aggregate-solve-4 c = sym (part-count (c .before .before .before .before .before .before .before .before .args .n) maxSteps (c .before .before .before .before .before .before .before .before .pre .1 .1 .0))
+slice-aggregate-solve-4 c =
+    let start = c .before .before .before .before .before .before .before .before in
+    sym (part-count (start .args .n) maxSteps (start .pre .1 .1 .0))
 
 array-borrow-prefix-capacity : tie.Need-array-borrow-prefix-capacity
 array-borrow-prefix-capacity c = search needs
 
 slice-aggregate-solve-5 : tie.Need-slice-aggregate-solve-5
-slice-aggregate-solve-5 c = sym (part-count (c .before .before .before .before .before .before .before .before .before .args .n) maxSteps (c .before .before .before .before .before .before .before .before .before .pre .1 .1 .0))
+slice-aggregate-solve-5 c =
+    let start = c .before .before .before .before .before .before .before .before .before in
+    sym (part-count (start .args .n) maxSteps (start .pre .1 .1 .0))
 
 array-borrow-prefix-supply : tie.Need-array-borrow-prefix-supply
 array-borrow-prefix-supply c = search needs
 
 slice-aggregate-solve-6 : tie.Need-slice-aggregate-solve-6
-slice-aggregate-solve-6 c = sym (part-count (c .before .before .before .before .before .before .before .before .before .before .args .n) maxSteps (c .before .before .before .before .before .before .before .before .before .before .pre .1 .1 .0))
+slice-aggregate-solve-6 c =
+    let start = c .before .before .before .before .before .before .before .before .before .before in
+    sym (part-count (start .args .n) maxSteps (start .pre .1 .1 .0))
 
 array-borrow-prefix-demand : tie.Need-array-borrow-prefix-demand
 array-borrow-prefix-demand c = search needs
 
 slice-aggregate-solve-7 : tie.Need-slice-aggregate-solve-7
-slice-aggregate-solve-7 c = sym (part-count (c .before .before .before .before .before .before .before .before .before .before .before .args .n) maxSteps (c .before .before .before .before .before .before .before .before .before .before .before .pre .1 .1 .0))
+slice-aggregate-solve-7 c =
+    let start = c .before .before .before .before .before .before .before .before .before .before .before in
+    sym (part-count (start .args .n) maxSteps (start .pre .1 .1 .0))
 
 slice-aggregate-solve-8 : tie.Need-slice-aggregate-solve-8
 slice-aggregate-solve-8 c = search needs
@@ -62,11 +74,27 @@ slice-aggregate-solve-11 c = search needs
 slice-aggregate-solve-12 : tie.Need-slice-aggregate-solve-12
 slice-aggregate-solve-12 c = search needs
 
+array-borrow-prefix-lowest : tie.Need-array-borrow-prefix-lowest
+array-borrow-prefix-lowest c = search needs
+
+slice-aggregate-solve-13 : tie.Need-slice-aggregate-solve-13
+slice-aggregate-solve-13 c =
+    let start = c .before .before .before .before .before .before .before .before .before .before .before .before .before .before .before
+    .before .before in
+    sym (part-count (start .args .n) maxSteps (start .pre .1 .1 .0))
+
 solve-requires : tie.Need-solve-requires
-solve-requires c κs = let s = c .before .before .before .before .before .before .before .before .before .before .before .before .before .before .before .before in (s .pre .0, (s .pre .1 .0, scratch-fits (length (now (s .args .from))) (s .args .n) (s .pre .1 .1 .1) (s .pre .1 .1 .0)))
+solve-requires c κs =
+    let s = c .before .before .before .before .before .before .before .before .before .before .before .before .before .before .before
+    .before .before in
+    (s .pre .0, (s .pre .1 .0, scratch-fits (length (now (s .args .from))) (s .args .n) (s .pre .1 .1 .1) (s .pre .1 .1 .0)))
 
 returns : tie.Need-returns
-returns c = let e = c .before .before .before .before .before .before .before .before .before .before .before .before .solve .ensures in record { best = e .best; long = e .relaxed .long }
+returns c =
+    let after-solve = c .before .before .before .before .before .before .before .before .before .before .before .before .before in
+    let start = after-solve .before .before .before .before .before .before .before .before .before .before .before .before .before .before .before .before .before .before in
+    let e = after-solve .solve .ensures in
+    solved-rows (e .best) (e .relaxed .long) (e .relaxed .rest) (start .pre .1 .1 .0)
 
 pub solve-rows-spec : {M : Type 1} → statement M
 solve-rows-spec =
@@ -90,5 +118,7 @@ solve-rows-spec =
     slice-aggregate-solve-10
     slice-aggregate-solve-11
     slice-aggregate-solve-12
+    array-borrow-prefix-lowest
+    slice-aggregate-solve-13
     solve-requires
     returns)

@@ -7,8 +7,8 @@ use lib.ListN.{length, getD, length-set}
 use borrow.Author.Needs.{needs}
 use denote.Ref.{now}
 use Rattle.layering.specs.Scan.{ScanIs, Short}
-use Rattle.layering.specs.Flat.{Ends}
-use Rattle.layering.proofs.SettleLaws.{Capped, capped-blank, capped-set}
+use Rattle.layering.specs.Flat.{NodeEnds}
+use Rattle.layering.proofs.SettleLaws.{Capped, capped-zeros, capped-set}
 use Rattle.layering.proofs.SetLaws.{room, room-set}
 use Rattle.layering.proofs.settle.settle_rows.Statement.{statement}
 use Rattle.layering.proofs.settle.settle_rows.Tie as tie
@@ -41,7 +41,7 @@ Shorts c = Short (F c) (T c) (G c) (c .loop .y)
 long : (c : At) → length (c .loop .y) ≡ length (now (start c .args .y))
 long c = omega arith
 
-ends : (c : At) → Ends (length (c .loop .y)) (F c) (T c)
+ends : (c : At) → NodeEnds (length (c .loop .y)) (F c) (T c)
 ends c = rw (long c) (start c .pre .0)
 
 -- the short edge of a turn
@@ -74,11 +74,11 @@ raised : (c : tie.Else1 Inv-loop μ-loop) → let a = c .before .before .before 
     getD (l .loop .y) (getD (F l) (edge a) 0) 0 + getD (G l) (edge a) 0 ≤ start l .args .cap
 raised c = let a = c .before .before .before .before .before in omega (arith, c .if1 .left, head a .loop .inv .2 .capped (getD (F (head a)) (edge a) 0))
 
-clear-rows-requires : tie.Need-clear-rows-requires Inv-loop μ-loop
-clear-rows-requires c κs = search needs
+clear-all-requires : tie.Need-clear-all-requires Inv-loop μ-loop
+clear-all-requires c κs = search needs
 
 loop-holds : tie.Need-loop-holds Inv-loop μ-loop
-loop-holds c = (refl, omega arith, capped-blank _ _ (c .before .before .clear-rows .ensures))
+loop-holds c = (refl, omega arith, capped-zeros _ (length (now (c .before .before .before .before .before .before .before .before .args .y))) _ (c .before .before .clear-all .ensures))
 
 next-short-requires : tie.Need-next-short-requires Inv-loop μ-loop
 next-short-requires c κs = (ends (c .before), (start (c .before) .pre .1, c .before .loop .inv .1))
@@ -161,7 +161,7 @@ settle-rows-spec =
     (tie.spec
     Inv-loop
     μ-loop
-    clear-rows-requires
+    clear-all-requires
     loop-holds
     next-short-requires
     enum-known-i

@@ -55,10 +55,10 @@ shared-slice-read-sum : tie.Need-shared-slice-read-sum Inv-loop μ-loop
 shared-slice-read-sum c = omega (arith, c .before .before .before .before .before .before .before .pre .weight-long, inside (c .before .before .before .before .before))
 
 mul-sum-2 : tie.Need-mul-sum-2 Inv-loop μ-loop
-mul-sum-2 c = omega (arith, share-low _ _ _ _ (c .before .before .before .before .before .before .before .pre) _ (inside (c .before .before .before .before .before)))
+mul-sum-2 c = let s = c .before .before .before .before .before .before .before .pre in let h = inside (c .before .before .before .before .before) in omega (arith, share-low _ _ _ _ s _ h, s .weights _ h)
 
 add-sum : tie.Need-add-sum Inv-loop μ-loop
-add-sum c = omega (arith, share-low _ _ _ _ (c .before .before .before .before .before .before .before .pre) _ (inside (c .before .before .before .before .before)), c .before .before .before .before .before .before .loop .inv .0 .small, inside (c .before .before .before .before .before), c .before .before .before .before .before .before .before .pre .few)
+add-sum c = let s = c .before .before .before .before .before .before .before .pre in let h = inside (c .before .before .before .before .before) in omega (arith, share-low _ _ _ _ s _ h, s .weights _ h, c .before .before .before .before .before .before .loop .inv .0 .small, h, s .few)
 
 add-i : tie.Need-add-i Inv-loop μ-loop
 add-i c = omega arith

@@ -6,15 +6,15 @@ use native.Mathlib.Omega.{arith}
 use borrow.Author.Needs.{needs}
 use lib.ListN.{length, take, length-map}
 use denote.Ref.{now}
-use Rattle.ordering.specs.Points.{Dummy, dummies}
-use Rattle.ordering.proofs.WriteLaws.{Writing, writing-start, writing-room, writing-part, writing-long, writing-end}
-use Rattle.listing.specs.Printing.{ownersOf, rowsOf}
+use Rattle.points.specs.Points.{Dummy, dummies}
+use Rattle.buffers.proofs.WriteLaws.{Writing, writing-start, writing-room, writing-part, writing-long, writing-end}
+use Rattle.listing.specs.Printing.{ownersOf, dummyRows}
 use Rattle.listing.proofs.LayLaws.{still, later, rowsBetween, owners-turn, rows-turn, lay-end, between-length, owners-length}
 use Rattle.listing.proofs.dummies.lay_dummies.Statement.{statement}
 use Rattle.listing.proofs.dummies.lay_dummies.Tie as tie
 
 abbrev Inv-loop : tie.InvT-loop
-Inv-loop m ys owners₀ rows₀ edges d₀ i₀ owners rows d i = (i ≤ m) × Writing owners₀ 0 (ownersOf (dummies ys 0 (take m edges))) owners d (ownersOf (still ys edges m i)) × Writing rows₀ 0 (rowsOf (dummies ys 0 (take m edges))) rows d (rowsOf (still ys edges m i))
+Inv-loop m ys owners₀ rows₀ edges d₀ i₀ owners rows d i = (i ≤ m) × Writing owners₀ 0 (ownersOf (dummies ys 0 (take m edges))) owners d (ownersOf (still ys edges m i)) × Writing rows₀ 0 (dummyRows (dummies ys 0 (take m edges))) rows d (dummyRows (still ys edges m i))
 
 abbrev μ-loop : tie.MeasureT-loop
 μ-loop m ys owners₀ rows₀ edges d₀ i₀ owners rows d i = m - i
@@ -35,8 +35,8 @@ owners-next : (c : tie.In-loop Inv-loop μ-loop) → let s = start c in let i = 
 owners-next c = owners-turn (now (start c .args .ys)) (start c .args .t1) (start c .args .m) (c .before .loop .i) (few (start c)) (c .loop-test .taken)
 
 rows-next : (c : tie.In-loop Inv-loop μ-loop) → let s = start c in let i = c .before .loop .i in
-    rowsOf (still (now (s .args .ys)) (s .args .t1) (s .args .m) i)
-    ≡ rowsBetween (now (s .args .ys)) (s .args .t1) (s .args .m) i ++ rowsOf (later (now (s .args .ys)) (s .args .t1) (s .args .m) i)
+    dummyRows (still (now (s .args .ys)) (s .args .t1) (s .args .m) i)
+    ≡ rowsBetween (now (s .args .ys)) (s .args .t1) (s .args .m) i ++ dummyRows (later (now (s .args .ys)) (s .args .t1) (s .args .m) i)
 rows-next c = rows-turn (now (start c .args .ys)) (start c .args .t1) (start c .args .m) (c .before .loop .i) (few (start c)) (c .loop-test .taken)
 
 -- and there is room for them
@@ -44,7 +44,7 @@ owners-room : (c : tie.In-loop Inv-loop μ-loop) → c .before .loop .d + length
 owners-room c = writing-room (map (λ (_ : ℕ). c .before .loop .i) (rowsBetween (now (start c .args .ys)) (start c .args .t1) (start c .args .m) (c .before .loop .i))) (ownersOf (later (now (start c .args .ys)) (start c .args .t1) (start c .args .m) (c .before .loop .i))) (owners-next c) (c .before .loop .inv .1)
 
 rows-room : (c : tie.In-loop Inv-loop μ-loop) → c .before .loop .d + length (rowsBetween (now (start c .args .ys)) (start c .args .t1) (start c .args .m) (c .before .loop .i)) ≤ length (c .before .loop .rows)
-rows-room c = writing-room (rowsBetween (now (start c .args .ys)) (start c .args .t1) (start c .args .m) (c .before .loop .i)) (rowsOf (later (now (start c .args .ys)) (start c .args .t1) (start c .args .m) (c .before .loop .i))) (rows-next c) (c .before .loop .inv .2)
+rows-room c = writing-room (rowsBetween (now (start c .args .ys)) (start c .args .t1) (start c .args .m) (c .before .loop .i)) (dummyRows (later (now (start c .args .ys)) (start c .args .t1) (start c .args .m) (c .before .loop .i))) (rows-next c) (c .before .loop .inv .2)
 
 loop-holds : tie.Need-loop-holds Inv-loop μ-loop
 loop-holds c = let s = c .before .before .before .args in let p = c .before .before .before .pre in let ds = dummies (now (s .ys)) 0 (take (s .m) (s .t1)) in (omega arith, writing-start _ _ _ (omega (arith, p .owners-room, length-map ds (λ (d : Dummy). d .edge))), writing-start _ _ _ (omega (arith, p .rows-room, length-map ds (λ (d : Dummy). d .row))))
@@ -86,7 +86,7 @@ same-length-2 : tie.Need-same-length-2 Inv-loop μ-loop
 same-length-2 c = writing-long (c .before .loop .inv .2)
 
 returns : tie.Need-returns Inv-loop μ-loop
-returns c = let s = c .before .before .before .before .before in let e = lay-end (now (s .args .ys)) (s .args .t1) (s .args .m) (c .before .loop .i) (few s) (c .loop-test .left) in (writing-end (ap ownersOf e) (c .before .loop .inv .1), writing-end (ap rowsOf e) (c .before .loop .inv .2))
+returns c = let s = c .before .before .before .before .before in let e = lay-end (now (s .args .ys)) (s .args .t1) (s .args .m) (c .before .loop .i) (few s) (c .loop-test .left) in (writing-end (ap ownersOf e) (c .before .loop .inv .1), writing-end (ap dummyRows e) (c .before .loop .inv .2))
 
 pub lay-dummies-spec : {M : Type 1} → statement M
 lay-dummies-spec =

@@ -7,8 +7,8 @@ use lib.ListN.{length, length-map}
 use borrow.Author.Needs.{needs}
 use denote.Ref.{now}
 use Rattle.graph.specs.Search.{run}
-use Rattle.ordering.proofs.WriteLaws.{Writing, writing-start, writing-next, writing-one, writing-long, writing-end}
-use Rattle.ordering.proofs.EdgeLaws.{run-length, run-between, run-turn, run-end}
+use Rattle.buffers.proofs.WriteLaws.{Writing, writing-start, writing-next, writing-one, writing-long, writing-end}
+use Rattle.buffers.proofs.RunLaws.{run-length, run-between, run-turn, run-end}
 use Rattle.listing.proofs.dummies.lay_edge.Statement.{statement}
 use Rattle.listing.proofs.dummies.lay_edge.Tie as tie
 

@@ -7,7 +7,7 @@ use borrow.Author.Needs.{needs}
 use lib.ListN.{length, drop}
 use denote.Ref.{now}
 use Rattle.graph.specs.Rows.{at as entry}
-use Rattle.ordering.proofs.WriteLaws.{Writing, writing-start, writing-room, writing-part, writing-long, writing-end}
+use Rattle.buffers.proofs.WriteLaws.{Writing, writing-start, writing-room, writing-part, writing-long, writing-end}
 use Rattle.listing.specs.Text.{blank}
 use Rattle.listing.specs.Printing.{labelText, leading, fieldsIn}
 use Rattle.listing.proofs.PrintLaws.{sheet-label, leading-turn, leading-other, leading-end, fields-turn, fields-none}

@@ -6,11 +6,11 @@ use native.Mathlib.Omega.{arith}
 use lib.ListN.{length}
 use denote.Enum.Declared.{tagOf}
 use types.Run.{OneOf, miss}
-use Rattle.table.specs.declared.types.Refusal.{Refusal}
-use Rattle.table.proofs.types.Refusal.{the-type}
-use Rattle.ordering.specs.Laying.{Stored}
-use Rattle.table.specs.declared.types.Refusal.the-variants.{Cut, Overlong, BadEdition, ManySteps, BadKind, OutOfRange, BadNameByte, ManyEdges, BadEnd, Spare, Loop, ManyPoints, ShortBuffer, NoStep}
-use Rattle.table.specs.Refusal.{numbersOf, numberOf}
+use Rattle.outcome.specs.declared.Refusal.{Refusal}
+use Rattle.outcome.proofs.Refusal.{the-type}
+use Rattle.buffers.specs.Written.{Stored}
+use Rattle.outcome.specs.declared.Refusal.the-variants.{Cut, Overlong, BadEdition, ManySteps, BadKind, OutOfRange, BadNameByte, ManyEdges, BadEnd, Spare, Loop, ManyPoints, ShortBuffer, NoStep}
+use Rattle.outcome.specs.Refusal.{numbersOf, numberOf}
 use Rattle.listing.specs.Text.{text, decimal}
 use Rattle.listing.specs.Listing.{line, refusalText}
 use borrow.Author.Needs.{needs}

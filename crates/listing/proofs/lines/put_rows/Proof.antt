@@ -5,7 +5,7 @@ use native.Mathlib.Omega.{arith}
 use borrow.Author.Needs.{needs}
 use lib.ListN.{length, drop}
 use denote.Ref.{now}
-use Rattle.ordering.proofs.WriteLaws.{Writing, writing-long, writing-end}
+use Rattle.buffers.proofs.WriteLaws.{Writing, writing-long, writing-end}
 use Rattle.listing.specs.Printing.{labelText, linesFrom}
 use Rattle.listing.proofs.PrintLaws.{lines-start, lines-next, lines-room, lines-end, leading-inside}
 use Rattle.listing.proofs.lines.put_rows.Statement.{statement}

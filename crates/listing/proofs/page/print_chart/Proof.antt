@@ -6,9 +6,9 @@ use native.Mathlib.Omega.{arith}
 use denote.Ref.{now}
 use lib.ListN.{length, take, replicate, length-map}
 use Rattle.table.specs.Limits.{maxPoints}
-use Rattle.ordering.specs.Points.{Dummy, dummies}
+use Rattle.points.specs.Points.{Dummy, dummies}
 use Rattle.ordering.specs.Charting.{Storable}
-use Rattle.listing.specs.Printing.{ownersOf, rowsOf, Layable}
+use Rattle.listing.specs.Printing.{ownersOf, dummyRows, Layable}
 use Rattle.listing.proofs.ChartedLaws.{Opened, opened}
 use Rattle.listing.proofs.PageLaws.{page-layable, page-sheet, page-head, page-rows, page-stored, stored-front, front-long}
 use borrow.Author.Needs.{needs}
@@ -39,8 +39,8 @@ start c = c .before .before .before .before .before .before .before .before .bef
 owners-laid : (c : tie.After-lay-dummies) → (c .lay-dummies .result ≤ length (c .lay-dummies .last .1 .1 .1 .0)) × (take (c .lay-dummies .result) (c .lay-dummies .last .1 .1 .1 .0) ≡ ownersOf (dummies-of (start c)))
 owners-laid c = stored-front (replicate maxPoints 0) (ownersOf (dummies-of (start c))) _ _ (omega (arith, layable (start c) .owners-room, length-map (dummies-of (start c)) (λ (d : Dummy). d .edge))) (c .lay-dummies .ensures .0)
 
-rows-laid : (c : tie.After-lay-dummies) → (c .lay-dummies .result ≤ length (c .lay-dummies .last .1 .1 .1 .1 .0)) × (take (c .lay-dummies .result) (c .lay-dummies .last .1 .1 .1 .1 .0) ≡ rowsOf (dummies-of (start c)))
-rows-laid c = stored-front (replicate maxPoints 0) (rowsOf (dummies-of (start c))) _ _ (omega (arith, layable (start c) .rows-room, length-map (dummies-of (start c)) (λ (d : Dummy). d .row))) (c .lay-dummies .ensures .1)
+rows-laid : (c : tie.After-lay-dummies) → (c .lay-dummies .result ≤ length (c .lay-dummies .last .1 .1 .1 .1 .0)) × (take (c .lay-dummies .result) (c .lay-dummies .last .1 .1 .1 .1 .0) ≡ dummyRows (dummies-of (start c)))
+rows-laid c = stored-front (replicate maxPoints 0) (dummyRows (dummies-of (start c))) _ _ (omega (arith, layable (start c) .rows-room, length-map (dummies-of (start c)) (λ (d : Dummy). d .row))) (c .lay-dummies .ensures .1)
 
 array-share-prefix-found-rows : tie.Need-array-share-prefix-found-rows
 array-share-prefix-found-rows c = rows-long (c .before .before .before .before .before .before)

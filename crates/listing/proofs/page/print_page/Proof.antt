@@ -1,5 +1,6 @@
 -- A refusal has its line, and any other outcome its chart.
 use denote.Ref.{now}
+use Rattle.ordering.proofs.CallLaws.{chart-here}
 use Rattle.listing.proofs.CallLaws.{refusal-fits, refusal-stored}
 use borrow.Author.Needs.{needs}
 use Rattle.listing.proofs.page.print_page.Statement.{statement}
@@ -18,7 +19,9 @@ enum-told : tie.Need-enum-told
 enum-told c = search needs
 
 print-chart-requires : tie.Need-print-chart-requires
-print-chart-requires c κs = search needs
+print-chart-requires c κs =
+    let r = c .before .before .before .before .before .chart-table in
+    (chart-here _ (r .result) (r .ensures .0), (r .ensures .1, (c .before .enum-told .given .1, c .before .before .before .before .before .before .before .before .pre)))
 
 same-length : tie.Need-same-length
 same-length c = search needs

@@ -1,5 +1,5 @@
 -- One entry is set.
-use Rattle.ordering.proofs.WriteLaws.{stored-one}
+use Rattle.buffers.proofs.WriteLaws.{stored-one}
 use borrow.Author.Needs.{needs}
 use Rattle.listing.proofs.text.put_byte.Statement.{statement}
 use Rattle.listing.proofs.text.put_byte.Tie as tie

@@ -7,7 +7,7 @@ use native.Mathlib.Omega.{arith}
 use borrow.Author.Needs.{needs}
 use lib.ListN.{length, drop}
 use denote.Ref.{now}
-use Rattle.ordering.proofs.WriteLaws.{Writing, writing-start, writing-room, writing-part, writing-long, writing-end}
+use Rattle.buffers.proofs.WriteLaws.{Writing, writing-start, writing-room, writing-part, writing-long, writing-end}
 use Rattle.listing.specs.Text.{blank, decimal}
 use Rattle.listing.specs.Listing.{blanked}
 use Rattle.listing.proofs.PutLaws.{fields-next, fields-over}

@@ -1,5 +1,5 @@
 -- A byte, and the number behind it.
-use Rattle.ordering.proofs.WriteLaws.{stored-append}
+use Rattle.buffers.proofs.WriteLaws.{stored-append}
 use mathlib.Core.List.{[], _∷_}
 use borrow.Author.Needs.{needs}
 use Rattle.listing.proofs.text.put_marked.Statement.{statement}

@@ -5,7 +5,7 @@ use native.Mathlib.Omega.{arith}
 use borrow.Author.Needs.{needs}
 use lib.ListN.{length, drop}
 use denote.Ref.{now}
-use Rattle.ordering.proofs.WriteLaws.{Writing, writing-start, writing-next, writing-one, writing-long, writing-end, drop-turn, drop-end}
+use Rattle.buffers.proofs.WriteLaws.{Writing, writing-start, writing-next, writing-one, writing-long, writing-end, drop-turn, drop-end}
 use Rattle.listing.proofs.text.put_text.Statement.{statement}
 use Rattle.listing.proofs.text.put_text.Tie as tie
 

@@ -1,4 +1,5 @@
 -- The ends of the edges make a chart of their best rows, and what is drawn of the ends is the chart of the edges.
+use native.Mathlib.Omega.{arith}
 use Rattle.ordering.proofs.SplitLaws.{part-from, part-to}
 use Rattle.ordering.proofs.ChartLaws.{sizable, found-many, found-drawn}
 use borrow.Author.Needs.{needs}
@@ -44,8 +45,20 @@ slice-aggregate-count-rows c = search needs
 count-rows-requires : tie.Need-count-rows-requires
 count-rows-requires c κs = let f = c .before .before .before .before .before .before .before .before .before .split-ends .ensures in sizable _ _ _ _ (c .before .before .before .before .before .before .before .before .before .before .pre .0) _ _ (f .tails) (f .heads) .chart .few-rows
 
+slice-aggregate-copy-points : tie.Need-slice-aggregate-copy-points
+slice-aggregate-copy-points c = search needs
+
+copy-points-requires : tie.Need-copy-points-requires
+copy-points-requires c κs =
+    let few = c .before .before .before .before .if1 .left in
+    (omega (arith, c .before .before .before .before .before .before .draw-ends .ensures .drawn few .long), few)
+
 returns-2 : tie.Need-returns-2
-returns-2 c = let f = c .before .before .before .before .before .before .before .before .before .before .before .split-ends .ensures in found-drawn _ _ _ _ (c .before .before .before .before .before .before .before .before .before .before .before .before .pre .0) _ _ (f .tails) (f .heads) _ _ _ (c .before .before .before .before .before .draw-ends .ensures) _ (c .before .count-rows .ensures) (c .before .before .before .if1 .left)
+returns-2 c =
+    let ends = c .before .before .before .before .before .before .before .before .before .before .before .before .before .split-ends .ensures in
+    let solved = c .before .before .before .before .before .before .before .before .before .before .before .before .before .before .pre .0 in
+    let drawn = c .before .before .before .before .before .before .before .draw-ends .ensures in
+    found-drawn _ _ _ _ solved _ _ (ends .tails) (ends .heads) _ _ _ drawn _ (c .before .before .before .count-rows .ensures) (c .before .before .before .before .before .if1 .left) _ (c .copy-points .ensures)
 
 pub draw-edges-spec : {M : Type 1} → statement M
 draw-edges-spec =
@@ -64,4 +77,6 @@ draw-edges-spec =
     array-share-prefix-rows-2
     slice-aggregate-count-rows
     count-rows-requires
+    slice-aggregate-copy-points
+    copy-points-requires
     returns-2)

@@ -5,14 +5,14 @@ use Rattle.ordering.specs.Drafts.{kept, replaced}
 use Rattle.ordering.proofs.draw.keep_fewer.Statement.{statement}
 use Rattle.ordering.proofs.draw.keep_fewer.Tie as tie
 
-copy-order-requires : tie.Need-copy-order-requires
-copy-order-requires c κs = c .before .before .before .before .pre
+copy-all-requires : tie.Need-copy-all-requires
+copy-all-requires c κs = c .before .before .before .before .pre
 
 same-length : tie.Need-same-length
 same-length c = search needs
 
 returns : tie.Need-returns
-returns c = replaced (c .before .before .before .before .if1 .taken) refl (c .before .before .copy-order .ensures)
+returns c = replaced (c .before .before .before .before .if1 .taken) refl (c .before .before .copy-all .ensures)
 
 returns-2 : tie.Need-returns-2
 returns-2 c = kept (c .if1 .left) refl refl
@@ -21,7 +21,7 @@ pub keep-fewer-spec : {M : Type 1} → statement M
 keep-fewer-spec =
     tie.close
     (tie.spec
-    copy-order-requires
+    copy-all-requires
     same-length
     returns
     returns-2)

@@ -1,14 +1,15 @@
 -- Every end is a point, and every point has a place in the lists.
 use borrow.Author.Needs.{needs}
+use Rattle.buffers.proofs.ListLaws.{below-higher}
 use Rattle.ordering.proofs.DraftLaws as laws
 use Rattle.ordering.proofs.draw.prepare_ends.Statement.{statement}
 use Rattle.ordering.proofs.draw.prepare_ends.Tie as tie
 
 count-ends-requires : tie.Need-count-ends-requires
-count-ends-requires c κs = let s = c .before .before .before .before .before .before .before in laws.below-more (s .pre .0 .lower-in) (s .pre .1 .0)
+count-ends-requires c κs = let s = c .before .before .before .before .before .before .before in below-higher (s .pre .0 .lower-in) (s .pre .1 .0)
 
 count-ends-requires-2 : tie.Need-count-ends-requires-2
-count-ends-requires-2 c κs = let s = c .before .before .before .before .before .before .before .before .before .before .before in laws.below-more (s .pre .0 .upper-in) (s .pre .1 .1 .0)
+count-ends-requires-2 c κs = let s = c .before .before .before .before .before .before .before .before .before .before .before in below-higher (s .pre .0 .upper-in) (s .pre .1 .1 .0)
 
 link-rows-requires : tie.Need-link-rows-requires
 link-rows-requires c κs = search needs

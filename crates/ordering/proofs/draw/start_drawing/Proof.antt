@@ -14,26 +14,26 @@ start-order-requires c κs = let r = c .before .before .before .before .before .
 place-all-requires : tie.Need-place-all-requires
 place-all-requires c κs = laws.started-placeable (c .before .before .before .before .before .before .before .before .before .before .before .before .before .before .before .before .before .before .pre .1 .1) (c .before .before .before .before .before .before .before .start-order .ensures .0) (c .before .before .before .before .before .before .before .start-order .ensures .1)
 
-copy-order-requires : tie.Need-copy-order-requires
-copy-order-requires c κs = omega (arith, c .before .before .before .before .before .before .before .before .before .before .before .before .before .before .before .before .before .before .before .before .before .before .before .pre .1 .1 .same, c .before .before .before .before .before .before .before .before .before .before .before .before .start-order .kept)
+copy-all-requires : tie.Need-copy-all-requires
+copy-all-requires c κs = omega (arith, c .before .before .before .before .before .before .before .before .before .before .before .before .before .before .before .before .before .before .before .before .before .before .before .pre .1 .1 .same, c .before .before .before .before .before .before .before .before .before .before .before .before .start-order .kept)
 
 count-crossings-requires : tie.Need-count-crossings-requires
 count-crossings-requires c κs = let s = c .before .before .before .before .before .before .before .before .before .before .before .before .before .before .before .before .before .before .before .before .before .before .before .before .before .before .before in (drafts.segmented-joined (s .pre .0) (omega (arith, s .pre .1 .1 .pos-long, c .before .before .before .before .before .before .before .before .place-all .kept)), (s .pre .1 .0, omega (arith, s .pre .0 .few)))
 
 same-length : tie.Need-same-length
-same-length c = omega (arith, c .before .before .before .before .before .before .before .before .before .before .before .before .before .before .before .before .before .start-order .kept, c .before .before .before .before .before .before .before .before .before .place-all .kept, c .before .before .before .before .copy-order .kept)
+same-length c = omega (arith, c .before .before .before .before .before .before .before .before .before .before .before .before .before .before .before .before .before .start-order .kept, c .before .before .before .before .before .before .before .before .before .place-all .kept, c .before .before .before .before .copy-all .kept)
 
 same-length-2 : tie.Need-same-length-2
-same-length-2 c = omega (arith, c .before .before .before .before .before .before .before .before .before .before .before .before .before .before .before .before .before .start-order .kept, c .before .before .before .before .before .before .before .before .before .place-all .kept, c .before .before .before .before .copy-order .kept)
+same-length-2 c = omega (arith, c .before .before .before .before .before .before .before .before .before .before .before .before .before .before .before .before .before .start-order .kept, c .before .before .before .before .before .before .before .before .before .place-all .kept, c .before .before .before .before .copy-all .kept)
 
 same-length-3 : tie.Need-same-length-3
-same-length-3 c = omega (arith, c .before .before .before .before .before .before .before .before .before .before .before .before .before .before .before .before .before .start-order .kept, c .before .before .before .before .before .before .before .before .before .place-all .kept, c .before .before .before .before .copy-order .kept)
+same-length-3 c = omega (arith, c .before .before .before .before .before .before .before .before .before .before .before .before .before .before .before .before .before .start-order .kept, c .before .before .before .before .before .before .before .before .before .place-all .kept, c .before .before .before .before .copy-all .kept)
 
 same-length-4 : tie.Need-same-length-4
-same-length-4 c = omega (arith, c .before .before .before .before .before .before .before .before .before .before .before .before .before .before .before .before .before .start-order .kept, c .before .before .before .before .before .before .before .before .before .place-all .kept, c .before .before .before .before .copy-order .kept)
+same-length-4 c = omega (arith, c .before .before .before .before .before .before .before .before .before .before .before .before .before .before .before .before .before .start-order .kept, c .before .before .before .before .before .before .before .before .before .place-all .kept, c .before .before .before .before .copy-all .kept)
 
 returns : tie.Need-returns
-returns c = laws.started-improving (c .before .before .before .before .before .before .before .before .before .before .before .before .before .before .before .before .before .before .before .before .before .before .before .before .before .before .before .before .pre .1 .1) (c .before .before .before .before .before .before .before .before .before .before .before .before .before .before .before .before .before .start-order .ensures .0) (c .before .before .before .before .before .before .before .before .before .before .before .before .before .before .before .before .before .start-order .ensures .1) (c .before .before .before .before .before .before .before .before .before .before .before .before .before .before .before .before .before .before .before .before .before .before .before .before .before .before .before .before .pre .0) (c .before .before .before .before .before .before .before .before .before .place-all .ensures) (c .before .before .before .before .copy-order .ensures) (c .count-crossings .ensures)
+returns c = laws.started-improving (c .before .before .before .before .before .before .before .before .before .before .before .before .before .before .before .before .before .before .before .before .before .before .before .before .before .before .before .before .pre .1 .1) (c .before .before .before .before .before .before .before .before .before .before .before .before .before .before .before .before .before .start-order .ensures .0) (c .before .before .before .before .before .before .before .before .before .before .before .before .before .before .before .before .before .start-order .ensures .1) (c .before .before .before .before .before .before .before .before .before .before .before .before .before .before .before .before .before .before .before .before .before .before .before .before .before .before .before .before .pre .0) (c .before .before .before .before .before .before .before .before .before .place-all .ensures) (c .before .before .before .before .copy-all .ensures) (c .count-crossings .ensures)
 
 pub start-drawing-spec : {M : Type 1} → statement M
 start-drawing-spec =
@@ -42,7 +42,7 @@ start-drawing-spec =
     sub-count
     start-order-requires
     place-all-requires
-    copy-order-requires
+    copy-all-requires
     count-crossings-requires
     same-length
     same-length-2

@@ -4,13 +4,13 @@ use Prim.Native.Nat.{_-_, _≤_}
 use native.Mathlib.Omega.{arith}
 use lib.ListN.{length}
 use Rattle.ordering.specs.Laid.{rowsIn}
-use Rattle.ordering.proofs.PositionLaws.{Placed}
+use Rattle.ordering.proofs.PositionLaws.{PlacedRows}
 use Rattle.ordering.proofs.PositionLaws as laws
 use Rattle.ordering.proofs.passes.place_all.Statement.{statement}
 use Rattle.ordering.proofs.passes.place_all.Tie as tie
 
 abbrev Inv-loop : tie.InvT-loop
-Inv-loop order first pos₀ count r₀ pos r = Placed (rowsIn first) order first r pos × (length pos ≡ length pos₀) × (r ≤ count)
+Inv-loop order first pos₀ count r₀ pos r = PlacedRows (rowsIn first) order first r pos × (length pos ≡ length pos₀) × (r ≤ count)
 
 abbrev μ-loop : tie.MeasureT-loop
 μ-loop order first pos₀ count r₀ pos r = count - r

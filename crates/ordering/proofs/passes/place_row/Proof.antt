@@ -2,6 +2,7 @@
 use Prim.Native.Nat.{_-_}
 use native.Mathlib.Omega.{arith}
 use Rattle.ordering.proofs.PlaceLaws.{Storing}
+use Rattle.buffers.proofs.ListLaws.{slice-below}
 use Rattle.ordering.proofs.PlaceLaws as laws
 use Rattle.ordering.proofs.passes.place_row.Statement.{statement}
 use Rattle.ordering.proofs.passes.place_row.Tie as tie
@@ -25,10 +26,10 @@ sub-pos : tie.Need-sub-pos Inv-loop μ-loop
 sub-pos c = omega (arith, c .before .before .before .pre .1 .0)
 
 mul-pos : tie.Need-mul-pos Inv-loop μ-loop
-mul-pos c = omega (arith, laws.slice-below _ _ _ _ (c .before .before .loop .i) (c .before .before .before .pre .1 .1) (c .before .before .loop .inv .from) (c .before .loop-test .taken) (c .before .before .before .pre .1 .0))
+mul-pos c = omega (arith, slice-below _ _ _ _ (c .before .before .loop .i) (c .before .before .before .pre .1 .1) (c .before .before .loop .inv .from) (c .before .loop-test .taken) (c .before .before .before .pre .1 .0))
 
 slice-write-pos : tie.Need-slice-write-pos Inv-loop μ-loop
-slice-write-pos c = omega (arith, laws.slice-below _ _ _ _ (c .before .before .loop .i) (c .before .before .before .pre .1 .1) (c .before .before .loop .inv .from) (c .before .loop-test .taken) (c .before .before .before .pre .1 .0))
+slice-write-pos c = omega (arith, slice-below _ _ _ _ (c .before .before .loop .i) (c .before .before .before .pre .1 .1) (c .before .before .loop .inv .from) (c .before .loop-test .taken) (c .before .before .before .pre .1 .0))
 
 add-i : tie.Need-add-i Inv-loop μ-loop
 add-i c = omega (arith, c .before .before .before .pre .1 .0)

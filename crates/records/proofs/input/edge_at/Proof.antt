@@ -1,5 +1,5 @@
 use borrow.Author.Needs.{needs}
-use Rattle.records.specs.Input.{edgeAt}
+use Rattle.records.specs.Input.{lentAt}
 use Rattle.records.proofs.input.edge_at.Statement.{statement}
 use Rattle.records.proofs.input.edge_at.Tie as tie
 
@@ -31,7 +31,7 @@ word-at-requires-4 : tie.Need-word-at-requires-4
 word-at-requires-4 c κs = search needs
 
 returns : tie.Need-returns
-unfolding edgeAt
+unfolding lentAt
 returns c = simp (c .before .before .before .word-at .ensures, c .before .before .word-at2 .ensures, c .before .word-at3 .ensures, c .word-at4 .ensures)
 
 pub edge-at-spec : {M : Type 1} → statement M

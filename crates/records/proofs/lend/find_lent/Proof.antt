@@ -52,7 +52,7 @@ use Rattle.graph.specs.declared.Edge.{Edge}
 use Rattle.graph.proofs.Edge as T
 use Rattle.graph.proofs.Edge.Laws as T′
 use Rattle.layering.specs.declared.types.RowsAnswer.{RowsAnswer}
-use Rattle.layering.specs.Calls.{rowsAnswer, recordCall, RecordsBest}
+use Rattle.layering.specs.Calls.{rowsNumbers, recordCall, RecordsBest}
 use Rattle.layering.specs.Lent.{RecordsAnswered}
 use Rattle.layering.proofs.types.RowsAnswer as S
 use Rattle.layering.proofs.types.RowsAnswer.Laws as S′
@@ -242,9 +242,9 @@ module _ {M : Type 1} (𝓤 : URA M) (H : Heap 𝓤) (A : Atoms 𝓤) (W : Given
         use1 W (later (some (λ (r : RowsAnswer). ((‵ (flft (α ∷ []) fullShare) ⊛ (‵ (flft κ q) ⊛ ‵ ftrue)) ⊛ ‵ (S.the-row .own r (w ∷ [])))
         ⊛ raw (ensured 𝓤 H A find-rows.ended (find-rows.clauses 𝓤 H A memory run) (α ∷ [], (κ, tt)) (n, (lent l₅ γ, (y, tt))) tt r)))) (id⊢ 𝓤 _) $ await ! tt $ pick ! (λ r.
         split ! $ move ! (1 ∷ []) $ use1 W (some (λ (zs : Unit {0} × (Unit {0} × (List ℕ × Unit {0}))). ‵ (lasts find-rows.ended (α ∷ [], (κ, tt)) (n, (lent l₅ γ, (y, tt))) zs)
-        ⊛ (raw (fact 𝓤 (r ≡ rowsAnswer (recordCall n (take m f) (now y) .answer))) ⊛ (raw (fact 𝓤 (zs .1 .1 .0 ≡ recordCall n (take m f) (now y) .rows)) ⊛ raw (fact 𝓤 (RecordsBest n (take m f) r (zs .1 .1 .0))))))) (id⊢ 𝓤 _) $ pick ! (λ zs.
-        split ! $ move ! (1 ∷ []) $ split ! $ heard ! (r ≡ rowsAnswer (recordCall n (take m f) (now y) .answer)) (λ e₀.
-        split ! $ heard ! (zs .1 .1 .0 ≡ recordCall n (take m f) (now y) .rows) (λ e₁. heard ! (RecordsBest n (take m f) r (zs .1 .1 .0)) (λ e₂.
+        ⊛ (raw (fact 𝓤 (rowsNumbers r ≡ recordCall n (take m f) (now y) .numbers)) ⊛ (raw (fact 𝓤 (zs .1 .1 .0 ≡ recordCall n (take m f) (now y) .rows)) ⊛ raw (fact 𝓤 (RecordsBest n (take m f) (rowsNumbers r) (zs .1 .1 .0))))))) (id⊢ 𝓤 _) $ pick ! (λ zs.
+        split ! $ move ! (1 ∷ []) $ split ! $ heard ! (rowsNumbers r ≡ recordCall n (take m f) (now y) .numbers) (λ e₀.
+        split ! $ heard ! (zs .1 .1 .0 ≡ recordCall n (take m f) (now y) .rows) (λ e₁. heard ! (RecordsBest n (take m f) (rowsNumbers r) (zs .1 .1 .0)) (λ e₂.
         fsplit ! $ drop ! $ fsplit ! $ drop ! $ fsplit ! $ fsplit ! $ move ! (1 ∷ []) $ feqL ! (λ l. move ! (1 ∷ []) $ drop ! $
         -- [rows' last list; the tokens and the answer; what is lent; the edges behind; _9; …]
         move ! (1 ∷ []) $ split ! $ split ! $ lft-end ! tt $ move ! (0 ∷ 4 ∷ []) $ lent-back ! tt $ fsplit ! $ drop ! $

@@ -3,7 +3,7 @@ use mathlib.Core.Path.{sym, ap, _∙_}
 use Rattle.table.specs.Table.{outcome}
 use Rattle.table.specs.Calls.{tableRead}
 use Rattle.table.proofs.WholeLaws.{read-refused, read-accepted, read-count, lists-stop, lists-cut, lists-spare, lists-whole, table-whole}
-use Rattle.table.specs.declared.types.Verdict.the-variants.{Accepted}
+use Rattle.outcome.specs.declared.Verdict.the-variants.{Accepted}
 use Rattle.table.proofs.whole.read_lists.Statement.{statement}
 use Rattle.table.proofs.whole.read_lists.Tie as tie
 

@@ -1,5 +1,5 @@
 -- `whole::refuse_table` meets its contract: blank arrays are padded empty lists.
-use Rattle.table.specs.Calls.{padded}
+use Rattle.buffers.specs.Padded.{padded}
 use Rattle.table.proofs.whole.refuse_table.Statement.{statement}
 use Rattle.table.proofs.whole.refuse_table.Tie as tie
 

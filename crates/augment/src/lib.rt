@@ -1,0 +1,4 @@
+// Augmenting paths: a search tree from a node with supply to one with demand, and a push along it.
+mod exit;
+pub mod push;
+pub mod tree;

@@ -1,0 +1,4 @@
+pub mod PlacingLaws
+pub mod CrossingsLaws
+pub mod LinkLaws
+pub mod RowSumLaws

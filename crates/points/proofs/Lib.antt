@@ -1,0 +1,4 @@
+pub mod EdgeLaws
+pub mod PointLaws
+pub mod NeighbourLaws
+pub mod RowCountLaws

@@ -1,0 +1,6 @@
+-- Flat networks in lists, relaxation, and the certificate of the best rows.
+pub mod Limits
+pub mod Network
+pub mod Certificate
+pub mod Relax
+pub mod Low

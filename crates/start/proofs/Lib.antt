@@ -1,0 +1,2 @@
+-- Why it holds, by subject.
+pub mod StartLaws

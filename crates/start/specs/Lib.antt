@@ -1,0 +1,2 @@
+-- What the start of the solver promises.
+pub mod Start
