@@ -11,7 +11,8 @@ use Rattle.graph.specs.Rows.{at}
 use Rattle.relaxation.specs.Certificate.{flux, Held}
 use Rattle.transport.specs.Flow.{Flows, spread}
 use Rattle.relaxation.specs.Low.{RowsLow}
-use Rattle.relaxation.specs.Limits.{wordLimit, nodeLimit, calmLimit, peakLimit, noSlack}
+use Rattle.buffers.specs.Written.{wordLimit}
+use Rattle.relaxation.specs.Limits.{nodeLimit, calmLimit, peakLimit, noSlack}
 use Rattle.relaxation.specs.Network.{Shaped, Narrow, Lengths}
 use Rattle.augment.specs.Search.{Leaves, LeavesAt, SlackAt, LeastIs, Tree, Fits, Marks, Raised, Near, Planted, Grown}
 use Rattle.transport.proofs.SumLaws.{flux-mono, spread-none, spread-ge}
@@ -55,7 +56,8 @@ some-leaves from to gap flow weight supply demand n s y rank shape wl fl sn m po
     in-flow : flux flow to z ≤ flux flow from z
     in-flow =
         flux-mono flow to from z
-        (λ i h. mul-cases (at flow i) (z (at to i)) (z (at from i)) (λ u. ind-le (at rank (at to i)) (at rank (at from i)) (λ p. back i (omega (arith, fl .flow-long)) u p)))
+        (λ i h. mul-cases (at flow i) (z (at to i)) (z (at from i)) (λ u. ind-le (at rank (at to i)) (at rank (at from i)) (λ p. back i (omega
+        (arith, fl .flow-long)) u p)))
       where
         back : (i : ℕ) → i < length from → 0 < at flow i → 0 < at rank (at to i) → 0 < at rank (at from i)
         back i h u p = elim (decLt 0 (at rank (at from i))) [ yes q ↦ q | no q ↦ absurd (omega (arith, slack i h .enters (omega arith) p u)) ]
@@ -184,8 +186,10 @@ module _ (from to gap flow weight supply demand : List ℕ) (n s amount : ℕ) (
           (marks : Marks from to flow rank parent capacity a count rank′ parent′ capacity′ v) where
         more : TreeMore from to gap flow n s amount y′ rank parent capacity rank′ parent′ capacity′ count v
         more =
-            tree-marks from to gap flow n s amount y′ rank parent capacity count shape narrow (raise-held from to gap flow n y rank y′ r shape (g .held) (least .slack) up)
-            (raise-tree from to gap flow n y rank y′ r shape (g .held) (least .slack) up s amount parent capacity count (g .tree)) sn (lens .1) (lens .2) (lens .3) a (exit .1) rank′ parent′ capacity′ v
+            tree-marks from to gap flow n s amount y′ rank parent capacity count shape narrow (raise-held from to gap flow n y rank y′ r shape
+            (g .held) (least .slack) up)
+            (raise-tree from to gap flow n y rank y′ r shape (g .held) (least .slack) up s amount parent capacity count (g .tree)) sn (lens .1)
+            (lens .2) (lens .3) a (exit .1) rank′ parent′ capacity′ v
             (raise-leaves from to gap flow n y rank y′ r shape (g .held) (least .slack) up a (exit .1) (exit .2)) marks
 
         pub growing-turn : Growing from to gap flow n s amount calmLimit demand old y′ rank′ parent′ capacity′ (count + 1) v
@@ -193,7 +197,8 @@ module _ (from to gap flow weight supply demand : List ℕ) (n s amount : ℕ) (
             record {
               tree = more .tree;
               held = raise-held from to gap flow n y rank y′ r shape (g .held) (least .slack) up;
-              near = near-turn from to gap flow n y rank y′ r shape (g .held) (least .slack) up s calmLimit rank′ count v sn (g .tree .root) (lens .1) (g .tree .ranks) (g .near) (more .marked);
+              near = near-turn from to gap flow n y rank y′ r shape (g .held) (least .slack) up s calmLimit rank′ count v sn (g .tree .root)
+                  (lens .1) (g .tree .ranks) (g .near) (more .marked);
               lengths = record {
                 y-long = omega (arith, up .long, g .lengths .y-long);
                 rank-long = more .rank-same ∙ g .lengths .rank-long;

@@ -8,12 +8,12 @@ use lib.ListN.{length, getD, set, drop, replicate, length-set, getD-replicate, l
 use lib.Seq.{getD-set-same, getD-set-other}
 use Rattle.graph.specs.Rows.{at}
 use Rattle.relaxation.specs.Certificate.{Held}
-use Rattle.relaxation.specs.Limits.{wordLimit}
+use Rattle.buffers.specs.Written.{wordLimit}
 use Rattle.relaxation.specs.Network.{Shaped}
 use Rattle.transport.specs.Flow.{Owed}
 use Rattle.augment.specs.Push.{OnWay, Steps, Pushable, Pushed}
 use Rattle.augment.specs.Search.{Link, Planted}
-use Rattle.relaxation.proofs.ListLaws.{set-cases}
+use Rattle.buffers.proofs.ListLaws.{set-cases}
 use Rattle.transport.proofs.SumLaws.{flux-add, flux-sub}
 
 module _ (from to f g supply demand : List ℕ) (d start : ℕ) where
@@ -115,7 +115,9 @@ module _ (from to gap old g supply demand : List ℕ) (n : ℕ) (y rank parent c
               let rp : r ≡ p = cc in
               let lt : at rank r < at rank cur = omega (arith, ap (at rank) rp) in
               let k = at parent cur in
-              let w′ : OnWay from to (set flow k (at flow k + d)) g supply demand d start (at from k) = way-add from to flow g supply demand d start k flow-in (subst (λ (c : ℕ). OnWay from to flow g supply demand d start c) (sym e) (w .way)) in (
+              let w′ : OnWay from to (set flow k (at flow k + d)) g supply demand d start
+              (at from k) = way-add from to flow g supply demand d start k flow-in (subst (λ
+              (c : ℕ). OnWay from to flow g supply demand d start c) (sym e) (w .way)) in (
                 rw ef (record {
                   inside = omega (arith, shape .from-in k edge-in);
                   marked = omega (arith, ap (at rank) rp);
@@ -123,7 +125,11 @@ module _ (from to gap old g supply demand : List ℕ) (n : ℕ) (y rank parent c
                   way = rw er w′;
                   same = same-after r _ lt;
                   grows = λ j. set-cases (λ (x : ℕ). x ≤ at old j + d) flow k _ j flow-in (λ q. omega (arith, kept-here, ap (at old) q)) (λ ne. w .grows j);
-                  held = record { kept = w .held .kept; tight = λ a h. set-cases (λ (x : ℕ). 0 < x → at y (at to a) ≤ at y (at from a) + at gap a) flow k _ a flow-in (λ q u. tight-here a (sym e1 ∙ q)) (λ ne. w .held .tight a h) };
+                  held = record {
+                    kept = w .held .kept;
+                    tight = λ a h. set-cases (λ (x : ℕ). 0 < x → at y (at to a) ≤ at y
+                        (at from a) + at gap a) flow k _ a flow-in (λ q u. tight-here a (sym e1 ∙ q)) (λ ne. w .held .tight a h);
+                  };
                   capped = omega (arith, w .capped, ap (at capacity) rp);
                 }),
                 lt,
@@ -136,7 +142,9 @@ module _ (from to gap old g supply demand : List ℕ) (n : ℕ) (y rank parent c
               let lt : at rank r < at rank cur = omega (arith, ap (at rank) rp) in
               let k = at parent cur in
               let fk : at from k ≡ cur = cc in
-              let w′ : OnWay from to (set flow k (at flow k - d)) g supply demand d start (at to k) = way-sub from to flow g supply demand d start k flow-in (step-covers ne) (subst (λ (c : ℕ). OnWay from to flow g supply demand d start c) (sym fk) (w .way)) in (
+              let w′ : OnWay from to (set flow k (at flow k - d)) g supply demand d start
+              (at to k) = way-sub from to flow g supply demand d start k flow-in (step-covers ne) (subst (λ
+              (c : ℕ). OnWay from to flow g supply demand d start c) (sym fk) (w .way)) in (
                 rw ef (record {
                   inside = omega (arith, shape .to-in k edge-in);
                   marked = omega (arith, ap (at rank) rp);
@@ -144,7 +152,12 @@ module _ (from to gap old g supply demand : List ℕ) (n : ℕ) (y rank parent c
                   way = rw er w′;
                   same = same-after r _ lt;
                   grows = λ j. set-cases (λ (x : ℕ). x ≤ at old j + d) flow k _ j flow-in (λ q. omega (arith, kept-here, ap (at old) q)) (λ ne. w .grows j);
-                  held = record { kept = w .held .kept; tight = λ a h. set-cases (λ (x : ℕ). 0 < x → at y (at to a) ≤ at y (at from a) + at gap a) flow k _ a flow-in (λ q u. w .held .tight a h (omega (arith, ap (at flow) q))) (λ ne. w .held .tight a h) };
+                  held = record {
+                    kept = w .held .kept;
+                    tight = λ a h. set-cases (λ (x : ℕ). 0 < x → at y (at to a) ≤ at y
+                        (at from a) + at gap a) flow k _ a flow-in (λ q u. w .held .tight a h (omega (arith, ap (at flow) q)))
+                        (λ ne. w .held .tight a h);
+                  };
                   capped = omega (arith, w .capped, ap (at capacity) rp);
                 }),
                 lt,

@@ -10,10 +10,11 @@ use lib.ListN.{length, getD, set, drop, length-set}
 use lib.Seq.{getD-set-other, drop-set-lt}
 use Rattle.graph.specs.Rows.{at}
 use Rattle.relaxation.specs.Certificate.{Held}
-use Rattle.relaxation.specs.Limits.{wordLimit, gapLimit, noSlack}
+use Rattle.buffers.specs.Written.{wordLimit}
+use Rattle.relaxation.specs.Limits.{gapLimit, noSlack}
 use Rattle.relaxation.specs.Network.{Shaped, Narrow}
 use Rattle.augment.specs.Search.{Leaves, Slack, SlackIs, LeavesAt, SlackAt, LeastIs, Link, Tree, Marks, Raised, Near}
-use Rattle.relaxation.proofs.ListLaws.{set-cases, hit, miss}
+use Rattle.buffers.proofs.ListLaws.{set-cases, hit, miss}
 
 -- y is old with the marked ones of the first v entries raised by d
 pub record Raising (n : ℕ) (rank : List ℕ) (d : ℕ) (old y : List ℕ) (v : ℕ) : Type 0 where
@@ -33,7 +34,8 @@ module _ (n : ℕ) (rank : List ℕ) (d : ℕ) (old y : List ℕ) (v : ℕ) (r :
       let in-y : v < length y = omega (arith, r .long) in
       record {
         long = length-set y v _ ∙ r .long;
-        marked = λ u b p. set-cases (λ (k : ℕ). k ≡ at old u + d) y v _ u in-y (λ e. rw (r .later v h (omega arith)) (ap (λ (w : ℕ). at old w + d) e)) (λ ne. r .marked u (omega (arith, ne)) p);
+        marked = λ u b p. set-cases (λ (k : ℕ). k ≡ at old u + d) y v _ u in-y (λ e. rw (r .later v h (omega arith)) (ap (λ
+            (w : ℕ). at old w + d) e)) (λ ne. r .marked u (omega (arith, ne)) p);
         other = λ u b p. set-cases (λ (k : ℕ). k ≡ at old u) y v _ u in-y (λ e. absurd (omega (arith, ap (at rank) e))) (λ ne. r .other u (omega (arith, ne)) p);
         later = λ u b k. getD-set-other y v u _ 0 (λ e. omega arith) ∙ r .later u b (omega arith);
         rest = drop-set-lt n y v _ h ∙ r .rest;
@@ -68,7 +70,11 @@ module _ (from to gap flow y rank : List ℕ) where
       → Slack (at rank (at from i)) (at rank (at to i)) (at y (at from i)) (at gap i) (at y (at to i)) (at flow i) s → r ≤ s
       → Least from to gap flow y rank a r (i + 1)
   least-keep a r i s l m le = record {
-    slack = λ k b. elim (ℕ-discrete k i) [ yes e ↦ subst (λ (j : ℕ). SlackAt from to gap flow y rank r j) (sym e) (slack-less le m) | no ne ↦ l .slack k (omega arith) ];
+    slack = λ k b. elim (ℕ-discrete k i) [
+      | yes e ↦ subst (λ (j : ℕ). SlackAt from to gap flow y rank r j) (sym e)
+          (slack-less le m)
+      | no ne ↦ l .slack k (omega arith)
+    ];
     kind = l .kind;
   }
 
@@ -76,7 +82,11 @@ module _ (from to gap flow y rank : List ℕ) where
       → SlackIs (at rank (at from i)) (at rank (at to i)) (at y (at from i)) (at gap i) (at y (at to i)) (at flow i) s → s < r
       → Least from to gap flow y rank i s (i + 1)
   least-take a r i s h l m lt = record {
-    slack = λ k b. elim (ℕ-discrete k i) [ yes e ↦ subst (λ (j : ℕ). SlackAt from to gap flow y rank s j) (sym e) (m .slack) | no ne ↦ slack-less (omega arith) (l .slack k (omega arith)) ];
+    slack = λ k b. elim (ℕ-discrete k i) [
+      | yes e ↦ subst (λ (j : ℕ). SlackAt from to gap flow y rank s j) (sym e) (m .slack)
+      | no ne ↦ slack-less
+          (omega arith) (l .slack k (omega arith))
+    ];
     kind = λ b. (h, m .kind b);
   }
 
@@ -172,9 +182,24 @@ module _ (from to gap flow : List ℕ) (n s amount : ℕ) (y rank parent capacit
       let one = t .ranks s sn in
       record {
         root = miss rank v count s (apart rank s v (omega (arith, t .root)) new) ∙ t .root;
-        only = λ u h e. elim (ℕ-discrete u v) [ yes q ↦ absurd (omega (arith, hit rank v count u in-rank q, t .root)) | no q ↦ t .only u h (omega (arith, miss rank v count u q)) ];
-        link = λ u h e. elim (ℕ-discrete u v) [ yes q ↦ subst (λ (w : ℕ). Link from to gap flow y (set rank v count) (set parent v a) (set capacity v c) w) (sym q) l | no q ↦ link-kept u q (t .link u h (omega (arith, miss rank v count u q))) ];
-        some = λ u h e. elim (ℕ-discrete u v) [ yes q ↦ omega (arith, hit capacity v c u in-capacity q) | no q ↦ omega (arith, miss capacity v c u q, t .some u h (omega (arith, miss rank v count u q))) ];
+        only = λ u h e. elim (ℕ-discrete u v) [
+          | yes q ↦ absurd (omega (arith, hit rank v count u in-rank q, t .root))
+          | no q ↦ t .only u h (omega
+              (arith, miss rank v count u q))
+        ];
+        link = λ u h e. elim (ℕ-discrete u v) [
+          | yes q ↦ subst (λ (w : ℕ). Link from to gap flow y (set rank v count) (set parent v a)
+              (set capacity v c) w) (sym q) l
+          | no q ↦ link-kept u q (t .link u h (omega (arith, miss rank v count u q)))
+        ];
+        some = λ u h e. elim (ℕ-discrete u v) [
+          | yes q ↦ omega (arith, hit capacity v c u in-capacity q)
+          | no q ↦ omega (
+            arith,
+            miss capacity v c u q,
+            t .some u h (omega (arith, miss rank v count u q)),
+          )
+        ];
         ranks = λ u h. elim (ℕ-discrete u v) [ yes q ↦ omega (arith, hit rank v count u in-rank q) | no q ↦ omega (arith, miss rank v count u q, t .ranks u h) ];
       }
 
@@ -198,7 +223,8 @@ pub record TreeMore (from to gap flow : List ℕ) (n s amount : ℕ) (y rank par
 
 module _ (from to gap flow : List ℕ) (n s amount : ℕ) (y rank parent capacity : List ℕ) (count : ℕ) (shape : Shaped from to gap n)
     (narrow : Narrow gap n) (held : Held from to gap flow (at y))
-    (t : Tree from to gap flow n s amount y rank parent capacity count) (sn : s < n) (rank-long : n ≤ length rank) (parent-long : n ≤ length parent) (capacity-long : n ≤ length capacity)
+    (t : Tree from to gap flow n s amount y rank parent capacity count) (sn : s < n) (rank-long : n ≤ length rank)
+    (parent-long : n ≤ length parent) (capacity-long : n ≤ length capacity)
     (a : ℕ) (h : a < length from) (rank′ parent′ capacity′ : List ℕ) (w : ℕ) where
   two : 1 < count
   two = omega (arith, t .root, t .ranks s sn)
@@ -239,7 +265,16 @@ module _ (from to gap flow : List ℕ) (n s amount : ℕ) (y rank parent capacit
             (omega (arith, miss rank v count p q, hit rank v count v (omega arith) refl, t .ranks p (shape .to-in a h)))
             (omega (arith, miss capacity v c p q, hit capacity v c v (omega arith) refl)))
             (omega arith) (omega arith);
-        marked = record { inside = vn; fresh = z; ranks = refl; parent = p; parent-in = shape .to-in a h; parent-marked = m; above = omega (arith, held .tight a h u, narrow .gaps a) };
+        marked = record {
+          inside = vn;
+          fresh = z;
+          ranks = refl;
+          parent = p;
+          parent-in = shape .to-in a h;
+          parent-marked = m;
+          above = omega
+              (arith, held .tight a h u, narrow .gaps a);
+        };
         fewer = zeros-set rank v count (omega arith) z (omega (arith, two));
         rank-same = length-set rank v count;
         parent-same = length-set parent v a;
@@ -260,7 +295,11 @@ module _ (from to gap flow : List ℕ) (n : ℕ) (y rank y′ : List ℕ) (r : �
   moved v h = elim (decLt 0 (at rank v)) [ yes m ↦ inl (m, up .marked v h m) | no m ↦ inr (omega arith, up .other v h (omega arith)) ]
 
   pub raise-held : Held from to gap flow (at y′)
-  raise-held = record { kept = λ a h. go-kept a h (moved (at from a) (shape .from-in a h)) (moved (at to a) (shape .to-in a h)); tight = λ a h u. go-tight a h u (moved (at from a) (shape .from-in a h)) (moved (at to a) (shape .to-in a h)) }
+  raise-held = record {
+    kept = λ a h. go-kept a h (moved (at from a) (shape .from-in a h)) (moved (at to a)
+        (shape .to-in a h));
+    tight = λ a h u. go-tight a h u (moved (at from a) (shape .from-in a h)) (moved (at to a) (shape .to-in a h));
+  }
     where
       go-kept : (a : ℕ) → a < length from → Moved y rank y′ r (at from a) → Moved y rank y′ r (at to a)
           → at y′ (at from a) + at gap a ≤ at y′ (at to a)
@@ -278,7 +317,14 @@ module _ (from to gap flow : List ℕ) (n : ℕ) (y rank y′ : List ℕ) (r : �
 
   pub raise-tree : (s amount : ℕ) (parent capacity : List ℕ) (count : ℕ) → Tree from to gap flow n s amount y rank parent capacity count
       → Tree from to gap flow n s amount y′ rank parent capacity count
-  raise-tree s amount parent capacity count t = record { root = t .root; only = t .only; link = λ v h m. go v h (omega arith) (t .link v h m); some = t .some; ranks = t .ranks }
+  raise-tree s amount parent capacity count t = record {
+    root = t .root;
+    only = t .only;
+    link = λ v h m. go v h (omega arith)
+        (t .link v h m);
+    some = t .some;
+    ranks = t .ranks;
+  }
     where
       go : (v : ℕ) → v < n → 0 < at rank v → Link from to gap flow y rank parent capacity v → Link from to gap flow y′ rank parent capacity v
       go v h m (Link.fwd i p e1 e2 e3 e4 e5 e6 e7 e8) =
@@ -298,8 +344,31 @@ module _ (from to gap flow : List ℕ) (n : ℕ) (y rank y′ : List ℕ) (r : �
   near-turn s b rank′ count v sn root fits ranks near m =
       rw (m .ranks) (record {
         all = λ u h. elim (moved u h) [ inl p ↦ omega (arith, up-s, near .all u h) | inr p ↦ omega (arith, up-s, near .all u h) ];
-        flat = λ u h z. elim (ℕ-discrete u v) [ yes q ↦ absurd (omega (arith, hit rank v count u in-rank q, ranks s sn)) | no q ↦ omega (arith, miss rank v count u q, near .flat u h (omega (arith, miss rank v count u q)), up .other u h (omega (arith, miss rank v count u q))) ];
-        close = λ u h k. elim (ℕ-discrete u v) [ yes q ↦ omega (arith, hit rank v count u in-rank q, at-v, ap (at y′) q) | no q ↦ omega (arith, miss rank v count u q, up-s, near .close u h (omega (arith, miss rank v count u q)), up .marked u h (omega (arith, miss rank v count u q))) ];
+        flat = λ u h z. elim (ℕ-discrete u v) [
+          | yes q ↦ absurd (omega (arith, hit rank v count u in-rank q, ranks s sn))
+          | no q ↦ omega (
+            arith,
+            miss rank v count u q,
+            near .flat u h (omega (arith, miss rank v count u q)),
+            up .other u h (omega (
+              arith,
+              miss rank v count u q,
+            )),
+          )
+        ];
+        close = λ u h k. elim (ℕ-discrete u v) [
+          | yes q ↦ omega (arith, hit rank v count u in-rank q, at-v, ap (at y′) q)
+          | no q ↦ omega (
+            arith,
+            miss rank v count u q,
+            up-s,
+            near .close u h (omega (arith, miss rank v count u q)),
+            up .marked u h (omega (
+              arith,
+              miss rank v count u q,
+            )),
+          )
+        ];
         top = omega (arith, at-v, up .other v (m .inside) (m .fresh), near .flat v (m .inside) (m .fresh));
       })
     where
@@ -311,5 +380,12 @@ module _ (from to gap flow : List ℕ) (n : ℕ) (y rank y′ : List ℕ) (r : �
 
       at-v : at y′ s ≤ at y′ v + count * gapLimit
       at-v =
-          omega
-          (arith, up-s, m .above, near .close (m .parent) (m .parent-in) (m .parent-marked), up .marked (m .parent) (m .parent-in) (m .parent-marked), ranks (m .parent) (m .parent-in))
+          omega (
+            arith,
+            up-s,
+            m .above,
+            near .close (m .parent) (m .parent-in) (m .parent-marked),
+            up .marked (m .parent) (m .parent-in)
+                (m .parent-marked),
+            ranks (m .parent) (m .parent-in),
+          )

@@ -4,7 +4,7 @@ use mathlib.Core.List.{List}
 use Prim.Native.Nat.{ℕ, _+_, _*_, _-_, _≤_, _<_}
 use lib.ListN.{length, set}
 use Rattle.graph.specs.Rows.{at}
-use Rattle.relaxation.specs.Limits.{wordLimit}
+use Rattle.buffers.specs.Written.{wordLimit}
 use Rattle.relaxation.specs.Certificate.{flux, Held}
 use Rattle.augment.specs.Search.{Tree}
 use Rattle.transport.specs.Flow.{spread, Owed}

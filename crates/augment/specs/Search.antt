@@ -5,7 +5,8 @@ use mathlib.Core.List.{List}
 use Prim.Native.Nat.{ℕ, _+_, _*_, _-_, _≤_, _<_, min}
 use lib.ListN.{length, set, drop}
 use Rattle.graph.specs.Rows.{at}
-use Rattle.relaxation.specs.Limits.{wordLimit, gapLimit, noSlack}
+use Rattle.buffers.specs.Written.{wordLimit}
+use Rattle.relaxation.specs.Limits.{gapLimit, noSlack}
 use Rattle.relaxation.specs.Network.{Lengths}
 use Rattle.relaxation.specs.Certificate.{Held}
 

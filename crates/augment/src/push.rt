@@ -3,7 +3,7 @@ ghost use mathlib.Core.Path.{_≡_};
 ghost use Prim.Native.Nat.{_+_, _≤_, _<_};
 ghost use lib.ListN.{length};
 ghost use Rattle.graph.specs.Rows.{at};
-ghost use Rattle.relaxation.specs.Limits.{wordLimit};
+ghost use Rattle.buffers.specs.Written.{wordLimit};
 ghost use Rattle.relaxation.specs.Network.{Shaped};
 ghost use Rattle.augment.specs.Push.{Steps, Pushable, Pushed};
 

@@ -1,16 +1,17 @@
 // The search tree: marked nodes, from one that has something to send, over residual arcs. Where none leaves, the marked rows rise.
 use crate::exit::next_exit;
 use crate::exit::start_search;
+use buffers::clear_first;
+use buffers::smaller_of;
 use relaxation::arcs::put_node;
-use relaxation::fill::clear_first;
-use relaxation::fill::smaller_of;
 ghost use mathlib.Core.Path.{_≡_};
 ghost use Prim.Native.Nat.{ℕ, _+_, _≤_, _<_};
 ghost use lib.ListN.{length};
 ghost use Rattle.graph.specs.Rows.{at};
 ghost use Rattle.transport.specs.Flow.{Flows};
 ghost use Rattle.relaxation.specs.Low.{RowsLow};
-ghost use Rattle.relaxation.specs.Limits.{wordLimit, calmLimit, peakLimit};
+ghost use Rattle.buffers.specs.Written.{wordLimit};
+ghost use Rattle.relaxation.specs.Limits.{calmLimit, peakLimit};
 ghost use Rattle.relaxation.specs.Network.{Shaped, Narrow, Lengths};
 ghost use Rattle.augment.specs.Search.{Fits, Marks, Raised, Planted, Grown};
 

@@ -9,7 +9,7 @@ use lib.ListN.{length}
 use Rattle.graph.specs.Rows.{at}
 use Rattle.barycentre.specs.Means.{Mean, meanOf, arranged, reorder}
 use Rattle.buffers.specs.Lists.{sum, Below}
-use Rattle.barycentre.specs.Flat.{endsIn, meanAt, arrangedBy, Totals, Counts}
+use Rattle.barycentre.specs.Flat.{endsIn, meanAt, arrangedBy, Counts}
 
 -- two numberings that agree below n agree on the ends of every point, where these are below n
 pub ends-agree : (f g : ℕ → ℕ) (n : ℕ) → ((q : ℕ) → q < n → f q ≡ g q) → (near far : List ℕ) (p : ℕ) → length near ≤ length far
@@ -37,11 +37,11 @@ map-agree : (f g : ℕ → Mean) (row : List ℕ) → ((i : ℕ) → i < length 
 map-agree f g [] h = refl
 map-agree f g (p ∷ row) h = ap₂ (λ x l. x ∷ l) (h zero (zero-lt-suc (length row))) (map-agree f g row (λ i l. h (suc i) (suc-le-suc l)))
 
--- sums and counts by point give every point of a row its mean
-pub arranged-is : (near far pos totals counts row : List ℕ) → Totals near far pos totals → Counts near far counts → Below (length totals) row → Below (length counts) row
-    → arrangedBy totals counts row ≡ reorder (endsIn near far) (at pos) row
+-- the sums of a row's points and counts by point give every point of the row its mean
+pub arranged-is : (near far pos totals counts row : List ℕ) → ((i : ℕ) → i < length row → at totals (at row i) ≡ sum (map (at pos) (endsIn near far (at row i))))
+    → Counts near far counts → Below (length counts) row → arrangedBy totals counts row ≡ reorder (endsIn near far) (at pos) row
 unfolding arrangedBy reorder meanOf
-arranged-is near far pos totals counts row t c bt bc =
+arranged-is near far pos totals counts row t c b =
     ap arranged
     (map-agree (meanAt totals counts) (meanOf (endsIn near far) (at pos)) row
-    (λ i l. ap₂ (λ (x y : ℕ). record { point = at row i; total = x; count = y }) (t .each (at row i) (bt .below i l)) (c .each (at row i) (bc .below i l))))
+    (λ i l. ap₂ (λ (x y : ℕ). record { point = at row i; total = x; count = y }) (t i l) (c .each (at row i) (b .below i l))))

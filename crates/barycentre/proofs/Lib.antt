@@ -1,4 +1,5 @@
-pub mod MeansLaws
+pub mod CountLaws
+pub mod TotalLaws
 pub mod InsertLaws
 pub mod SortLaws
 pub mod RowLaws

@@ -22,3 +22,9 @@ sum-but-one f g x r a (suc k) one others l h = ⊎-elim
     (λ e. omega (arith, one, ap f e, ap g e, sum-same f g (suc a) k (λ q m. others q (λ w. omega arith))))
     (λ m. omega (arith, others a (λ w. omega arith), sum-but-one f g x r (suc a) k one others (omega arith) (omega arith)))
     (eq-or-lt-of-le l)
+
+-- a run is one longer: the last number's term is added
+pub sum-last : (f : ℕ → ℕ) (a k : ℕ) → sum (map f (run a (suc k))) ≡ sum (map f (run a k)) + f (a + k)
+unfolding sum run
+sum-last f a zero = let e : a + 0 ≡ a = omega arith in omega (arith, ap f e)
+sum-last f a (suc k) = let e : suc a + k ≡ a + suc k = omega arith in omega (arith, sum-last f (suc a) k, ap f e)

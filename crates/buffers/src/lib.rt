@@ -1,8 +1,9 @@
-// What is done to lent slices below all layers: entries cleared, copied and stored, and the larger and the smaller of two numbers.
+// What is done to lent slices below all layers: entries cleared, copied, stored, read and changed, and the larger and the smaller of two
+// numbers.
 ghost use mathlib.Core.Path.{_≡_};
 ghost use mathlib.Core.List.{_++_};
-ghost use Prim.Native.Nat.{ℕ, max, min, _≤_, _<_};
-ghost use lib.ListN.{length, take, drop, replicate};
+ghost use Prim.Native.Nat.{ℕ, max, min, _-_, _≤_, _<_};
+ghost use lib.ListN.{length, set, take, drop, replicate};
 ghost use Rattle.graph.specs.Rows.{at};
 ghost use Rattle.buffers.specs.Written.{Stored};
 
@@ -87,4 +88,39 @@ pub fn smaller_of(a: usize, b: usize) -> usize
         return a;
     }
     b
+}
+
+// The first n entries of xs copied to y.
+pub fn copy_first(xs: &[usize], y: &mut [usize], n: usize)
+    requires { ⌜ n ≤ length (now xs) ⌝ }
+    requires { ⌜ n ≤ length (now y) ⌝ }
+    ensures { λ _. ⌜ now (y .exit) ≡ take n (now (xs .entry)) ++ drop n (now (y .entry)) ⌝ }
+{
+    let mut k = 0;
+    while k < n {
+        y[k] = xs[k];
+        k += 1;
+    }
+}
+
+// Entry i, or 0 where there is none.
+pub fn read_entry(xs: &[usize], i: usize) -> usize
+    ensures { λ r. ⌜ r ≡ at (now (xs .entry)) i ⌝ }
+{
+    if i < xs.len() {
+        return xs[i];
+    }
+    0
+}
+
+// d taken off entry i; what is left there.
+pub fn take_at(xs: &mut [usize], i: usize, d: usize) -> usize
+    requires { ⌜ i < length (now xs) ⌝ }
+    requires { ⌜ d ≤ at (now xs) i ⌝ }
+    ensures { λ r. ⌜ r ≡ at (now (xs .entry)) i - d ⌝ }
+    ensures { λ _. ⌜ now (xs .exit) ≡ set (now (xs .entry)) i (at (now (xs .entry)) i - d) ⌝ }
+{
+    let left = xs[i] - d;
+    xs[i] = left;
+    left
 }

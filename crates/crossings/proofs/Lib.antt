@@ -1,4 +1,11 @@
 pub mod PlacingLaws
 pub mod CrossingsLaws
-pub mod LinkLaws
 pub mod RowSumLaws
+pub mod SameLaws
+pub mod InsertionLaws
+pub mod TallyLaws
+pub mod CountListLaws
+pub mod RaiseLaws
+pub mod SweepLaws
+pub mod RowPointsLaws
+pub mod CountLaws

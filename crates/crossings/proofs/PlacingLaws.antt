@@ -9,17 +9,14 @@ use lib.Seq.{ext-getD}
 use Rattle.graph.specs.Rows.{at}
 use Rattle.graph.specs.Search.{run}
 use Rattle.points.specs.Points.{Segment}
+use Rattle.points.specs.Laying.{uppers, lowers}
 use Rattle.points.specs.Positions.{place}
 use Rattle.crossings.specs.Crossings.{PlacedSegment, placed, crossingPairs, crossings}
 use Rattle.buffers.specs.Lists.{Below}
-use Rattle.crossings.specs.Placing.{placedAt, placedBy, Joined}
+use Rattle.buffers.proofs.RunLaws.{run-length}
+use Rattle.crossings.specs.Placing.{placedAt, placedBy}
 
 -- k numbers from a on
-run-length : (a k : ℕ) → length (run a k) ≡ k
-unfolding run
-run-length a zero = refl
-run-length a (suc k) = ap suc (run-length (suc a) k)
-
 run-at : (a k i d : ℕ) → i < k → getD (run a k) i d ≡ a + i
 unfolding run
 run-at a zero i d h = absurd (not-suc-le-zero h)
@@ -42,30 +39,9 @@ module _ (upper lower row pos : List ℕ) where
   placed-at k d h =
       map-at (placedAt upper lower row pos) (run 0 (length upper)) k d 0 (rw run-length h) ∙ ap (placedAt upper lower row pos) (run-at 0 (length upper) k 0 h ∙ zero-add k)
 
--- the ends of segment k can be looked up
-pub record Found (upper lower row pos : List ℕ) (k : ℕ) : Type 0 where
-  pub lower-long : k < length lower
-  pub row-in : at upper k < length row
-  pub upper-in : at upper k < length pos
-  pub lower-in : at lower k < length pos
-
-pub ends-found : {upper lower row pos : List ℕ} {k : ℕ} → Joined upper lower row pos → k < length upper → Found upper lower row pos k
-ends-found {lower = lower} {k = k} j h =
-    let l : k < length lower = omega (arith, j .both) in
-    let u = j .upper-in .below k h in
-    let v = j .lower-in .below k l in
-    record { lower-long = l; row-in = u; upper-in = omega (arith, j .placed); lower-in = omega (arith, j .placed) }
-
 -- what stands past the end of a list of segments
 abbrev noSegment : Segment
 noSegment = record { upper = 0; lower = 0 }
-
--- the upper ends of segments, and the lower
-abbrev uppers : List Segment → List ℕ
-uppers segs = map (λ (s : Segment). s .upper) segs
-
-abbrev lowers : List Segment → List ℕ
-lowers segs = map (λ (s : Segment). s .lower) segs
 
 -- Flat lists place the segments as the order does, where they hold the ends of the segments and, for the n points, the rows and the
 -- places in the order: segment by segment both sides read the same three numbers.

@@ -13,13 +13,8 @@ use Rattle.graph.specs.Search.{run}
 use Rattle.buffers.proofs.SumLaws.{sum-but-one}
 use Rattle.points.specs.Points.{Segment}
 use Rattle.buffers.specs.Lists.{sum}
-use Rattle.crossings.specs.Crossings.{PlacedSegment, placed, cross, crossingsWith, crossingPairs, crossings}
+use Rattle.crossings.specs.Crossings.{PlacedSegment, placed, cross, crossingsWith, crossingPairs, crossings, inRow, crossingsBetween}
 use Rattle.crossings.proofs.CrossingsLaws.{cross-apart}
-
--- the segments whose upper end is in row r, which are those between row r and the row below
-unfoldable pub inRow : ℕ → List PlacedSegment → List PlacedSegment
-inRow r [] = []
-inRow r (s ∷ l) = let rest = inRow r l in cond (eqb (s .row) r) (s ∷ rest) rest
 
 -- A segment crosses as many of its own row as of all: those of other rows it cannot cross.
 with-inRow : (s : PlacedSegment) (l : List PlacedSegment) → crossingsWith s (inRow (s .row) l) ≡ crossingsWith s l
@@ -61,11 +56,11 @@ pairs-by-row none count (s ∷ l) low =
     ∙ sym (sum-but-one (λ (r : ℕ). crossingPairs (inRow r (s ∷ l))) (λ (r : ℕ). crossingPairs (inRow r l)) (crossingsWith s l) (s .row) 0 count
     (own-row s l) (other-row s l) (omega arith) (omega (arith, low 0 (omega arith))))
 
--- The chart's count is that of row 0 and row 1, of row 1 and row 2, and so on, where no upper end is below the last row.
+-- The chart's count is that between row 0 and row 1, between row 1 and row 2, and so on, where no upper end is below the last row.
 pub crossings-by-row : (ys : List ℕ) (segs : List Segment) (order : List (List ℕ)) (count : ℕ) (none : Segment)
     → ((i : ℕ) → i < length segs → at ys (getD segs i none .upper) < count)
-    → crossings ys segs order ≡ sum (map (λ (r : ℕ). crossingPairs (inRow r (map (placed ys order) segs))) (run 0 count))
-unfolding crossings
+    → crossings ys segs order ≡ sum (map (crossingsBetween ys segs order) (run 0 count))
+unfolding crossings crossingsBetween
 crossings-by-row ys segs order count none low =
     pairs-by-row (placed ys order none) count (map (placed ys order) segs)
     (λ i h. rw (List·getD-map (placed ys order) segs i none) (low i (simp length-map at h)))

@@ -33,3 +33,12 @@ crossingPairs (s ∷ ss) = crossingsWith s ss + crossingPairs ss
 
 unfoldable pub crossings : List ℕ → List Segment → List (List ℕ) → ℕ
 crossings ys segs order = crossingPairs (map (placed ys order) segs)
+
+-- the segments whose upper end is in row r, which are those between row r and the row below
+unfoldable pub inRow : ℕ → List PlacedSegment → List PlacedSegment
+inRow r [] = []
+inRow r (s ∷ l) = let rest = inRow r l in cond (eqb (s .row) r) (s ∷ rest) rest
+
+-- the crossings between row r and the row below; those of a chart are the sum over its rows
+unfoldable pub crossingsBetween : List ℕ → List Segment → List (List ℕ) → ℕ → ℕ
+crossingsBetween ys segs order r = crossingPairs (inRow r (map (placed ys order) segs))

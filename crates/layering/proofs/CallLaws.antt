@@ -29,7 +29,7 @@ use Rattle.table.proofs.AnswerLaws.{Told}
 use Rattle.layering.specs.declared.types.RowsAnswer.{RowsAnswer}
 use Rattle.layering.specs.declared.types.RowsFound.{RowsFound}
 use Rattle.layering.specs.declared.types.TableRows.{TableRows}
-use Rattle.layering.specs.Loops.{lowestOnLoop}
+use Rattle.acyclic.specs.Loops.{lowestOnLoop}
 use Rattle.layering.specs.Calls.{rowsFound, rowsNumbers, rowsOfTable, rowsCall, recordsJudged, rowsOfRecords, recordCall, TableBest, unlessLoop, rowsBy, totalBy, PlaceEnd, placeCall, placeEnd}
 use Rattle.layering.specs.Placed.{outcomeBy, heldRows, FairEdges, noRows, Placed, EdgesPlaced, RowsHandedOut, TablePlaced, RecordsPlaced}
 use Rattle.layering.specs.Lent.{RecordsAnswered}

@@ -13,7 +13,7 @@ use Rattle.graph.proofs.BoundLaws.{widest-le}
 use Rattle.graph.proofs.PlacementLaws.{rows-low}
 use Rattle.table.specs.Limits.{maxSteps, maxGap}
 use Rattle.outcome.specs.Refusal.{done}
-use Rattle.layering.specs.Loops.{lowestOnLoop}
+use Rattle.acyclic.specs.Loops.{lowestOnLoop}
 use Rattle.layering.specs.Calls.{unlessLoop, rowsFound}
 use Rattle.layering.specs.Placed.{topRow}
 

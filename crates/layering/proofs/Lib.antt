@@ -1,13 +1,4 @@
--- Laws by subject. A layer above wants CallLaws, PlaceLaws and TotalLaws; for loops LoopLaws, BoundLaws and FoundLaws.
-pub mod WalkLaws
-pub mod ReachLaws
-pub mod LoopLaws
-pub mod BoundLaws
-pub mod FoundLaws
-pub mod SetLaws
-pub mod ScanLaws
-pub mod MarkLaws
-pub mod SettleLaws
+-- Laws by subject. A layer above wants CallLaws, PlaceLaws and TotalLaws.
 pub mod FlattenLaws
 pub mod StoreLaws
 pub mod RecordLaws

@@ -1,6 +1,6 @@
 -- Fair edges in flat slices: the loop finder and the solver take them, and what these answer is the outcome.
 use mathlib.Core.Path.{_≡_, sym, ap, subst, _∙_}
-use mathlib.Core.List.{List, [], _∷_}
+use mathlib.Core.List.{List, [], _∷_, _++_}
 use Prim.Native.Nat.{ℕ, suc, _*_, _-_, _≤_, _<_, suc-le-suc}
 use native.Mathlib.Nat.{le-trans, mul-le-mul-left, mul-le-mul-right, zero-lt-suc}
 use native.Mathlib.Decide.{decLt}
@@ -12,7 +12,8 @@ use Rattle.graph.specs.Rows.{at, total, Best, Within}
 use Rattle.graph.specs.Search.{widest}
 use Rattle.graph.proofs.BoundLaws.{widest-le, best-bounded, best-is-rowsOf}
 use Rattle.relaxation.specs.Limits.{gapLimit, weightLimit, rowLimit}
-use Rattle.relaxation.specs.Network.{edgesOf, sum, Network, Bounded, Buffers}
+use Rattle.buffers.specs.Lists.{sum}
+use Rattle.relaxation.specs.Network.{edgesOf, Network, Bounded, Buffers}
 use Rattle.relaxation.proofs.EdgesLaws.{length-edgesOf, edge-at}
 use Rattle.outcome.specs.declared.Refusal.{Refusal}
 use Rattle.outcome.specs.declared.Refusal.the-variants.{Loop}
@@ -21,17 +22,19 @@ use Rattle.outcome.specs.declared.Verdict.the-variants.{Accepted, Refused}
 use Rattle.table.specs.Limits.{maxSteps, maxEdges, maxGap, maxWeight}
 use Rattle.outcome.specs.Refusal.{Outcome, done, refused}
 use Rattle.buffers.specs.Padded.{padded}
-use Rattle.buffers.proofs.PaddedLaws.{padded-long, padded-same, drop-zeros}
+use Rattle.buffers.proofs.PaddedLaws.{padded-long, padded-front, padded-paste}
+use Rattle.buffers.specs.Written.{Stored}
+use Rattle.buffers.proofs.WriteLaws.{written-is}
 use Rattle.table.specs.Fair.{FairEdge}
 use Rattle.layering.specs.declared.types.RowsFound.{RowsFound}
-use Rattle.layering.specs.declared.settle.Found.{Found}
-use Rattle.layering.specs.declared.settle.Found.the-variants.{At, Nothing}
-use Rattle.layering.specs.Flat.{NodeEnds, Gaps}
-use Rattle.layering.specs.Loops.{FoundIs, LowRows}
+use Rattle.acyclic.specs.declared.settle.Found.{Found}
+use Rattle.acyclic.specs.declared.settle.Found.the-variants.{At, Nothing}
+use Rattle.acyclic.specs.Ends.{NodeEnds, Gaps}
+use Rattle.acyclic.specs.Loops.{FoundIs, LowRows}
 use Rattle.layering.specs.Calls.{rowsFound}
 use Rattle.layering.specs.Placed.{outcomeBy, topRow, FairEdges, Even, SolvedRows, noRows, Placed, EdgesPlaced}
-use Rattle.layering.proofs.BoundLaws.{low-rows-at}
-use Rattle.layering.proofs.FoundLaws.{found-weighted, found-computes}
+use Rattle.acyclic.proofs.BoundLaws.{low-rows-at}
+use Rattle.acyclic.proofs.FoundLaws.{found-weighted, found-computes}
 
 -- ---- refused
 
@@ -81,11 +84,11 @@ zeros = replicate maxSteps 0
 pub part-count : (n k : ℕ) → n ≤ k → length (take n (replicate {A = ℕ} k 0)) ≡ n
 part-count n k h = length-take-le n (replicate k 0) (subst (λ (x : ℕ). n ≤ x) (sym (length-replicate {A = ℕ} k 0)) h)
 
-pub scratch-fits : (m n : ℕ) → m ≤ maxEdges → n ≤ maxSteps
-    → Buffers m n zeros (take m (replicate maxEdges 0)) (take n zeros) (take n zeros) (take n zeros) (take n zeros) (take n zeros) (take n zeros)
-scratch-fits m n few h =
+pub scratch-fits : (m n : ℕ) (y : List ℕ) → m ≤ maxEdges → n ≤ maxSteps → length y ≡ maxSteps
+    → Buffers m n y (take m (replicate maxEdges 0)) (take n zeros) (take n zeros) (take n zeros) (take n zeros) (take n zeros) (take n zeros)
+scratch-fits m n y few h k =
     record {
-      lengths = record { y-long = h; rank-long = part; parent-long = part; capacity-long = part };
+      lengths = record { y-long = omega arith; rank-long = part; parent-long = part; capacity-long = part };
       flow-long = part-count m maxEdges few;
       supply-long = part;
       demand-long = part;
@@ -95,15 +98,26 @@ scratch-fits m n few h =
     part : length (take n zeros) ≡ n
     part = part-count n maxSteps h
 
--- the rows behind the nodes were 0 and stay so
-pub solved-rows : {n : ℕ} {edges : List Edge} {rows : List ℕ} → Best n edges (take n rows) → length rows ≡ length zeros
-    → drop n rows ≡ drop n zeros → n ≤ maxSteps → SolvedRows n edges rows
-solved-rows {n} {edges} {rows} best long rest few =
+-- best rows in an array whose others are 0
+pub solved-rows : {n : ℕ} {edges : List Edge} (y : List ℕ) {rows : List ℕ} → Best n edges (take n y) → rows ≡ padded maxSteps 0 (take n y)
+    → n ≤ maxSteps → SolvedRows n edges rows
+solved-rows {n} {edges} y {rows} best e few =
     record {
-      best = best;
-      blank = sym (padded-same maxSteps 0 n rows (omega (arith, long, length-replicate {A = ℕ} maxSteps 0)) (rest ∙ drop-zeros n maxSteps));
-      long = long ∙ length-replicate {A = ℕ} maxSteps 0;
+      best = subst (Best n edges) (sym front) best;
+      blank = e ∙ ap (padded maxSteps 0) (sym front);
+      long = ap length e ∙ padded-long maxSteps 0 (take n y) (omega (arith, best .one-a-node));
     }
+  where
+    front : take n rows ≡ take n y
+    front = ap (take n) e ∙ ap (λ k. take k (padded maxSteps 0 (take n y))) (sym (best .one-a-node)) ∙ padded-front maxSteps 0 (take n y)
+
+-- rows copied over an array of zeros
+pub padded-rows : (n : ℕ) (y rows : List ℕ) {r : ℕ} → n ≤ maxSteps → length y ≡ maxSteps → Stored zeros 0 (take n y) rows r
+    → rows ≡ padded maxSteps 0 (take n y)
+padded-rows n y rows few long s =
+    let count : length (take n y) ≡ n = length-take-le n y (omega arith) in
+    s .holds ∙ written-is zeros (take n y) (omega (arith, count, length-replicate {A = ℕ} maxSteps 0))
+    ∙ ap (λ k. take n y ++ drop k zeros) count ∙ padded-paste maxSteps n y (omega arith)
 
 -- ---- flat slices of fair edges
 

@@ -5,7 +5,7 @@ use Rattle.graph.specs.Rows.{total}
 use Rattle.graph.specs.Search.{run, keepsOne, keeps, sieve, extend, placements, lightest, firstLightest, widest, rowsOf}
 use Rattle.table.specs.Number.{byteAt, numberAt, numberIn, many}
 use Rattle.table.specs.Table.{adjustAt, waitAt, kindAt, nameByteAt, nameAt, namedAt, stepAt, endAt, edgeBetween, edgeAt, stepsAt, edgesAt, listsAt, tableAt, read}
-use Rattle.layering.specs.Loops.{mark, sweep, sweeps, reached, onLoop, firstFrom, lowestOnLoop}
+use Rattle.acyclic.specs.Loops.{mark, sweep, sweeps, reached, onLoop, firstFrom, lowestOnLoop}
 use Rattle.layering.specs.Calls.{rowsFound, rowsOfTable}
 use Rattle.layering.specs.Starred.{tellRows, starredRows}
 

@@ -19,7 +19,7 @@ use Rattle.table.proofs.FairLaws.{read-fair}
 use Rattle.table.proofs.RangeLaws.{read-range}
 use Rattle.outcome.proofs.ToldLaws.{numbers-same, number-some}
 use Rattle.outcome.proofs.ToldLaws.{alone}
-use Rattle.layering.specs.Loops.{firstFrom, onLoop, lowestOnLoop}
+use Rattle.acyclic.specs.Loops.{firstFrom, onLoop, lowestOnLoop}
 use Rattle.layering.specs.Calls.{unlessLoop, rowsFound, RowsEnd, rowsEnd, rowsOfTable, rowsCall, endsGood, sizesGood, edgeJudged, recordsJudged, rowsOfRecords, recordCall}
 
 -- a step number within the limit, and 0 where no step comes with a refusal

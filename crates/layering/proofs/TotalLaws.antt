@@ -12,7 +12,7 @@ use Rattle.graph.specs.Rows.{at, noEdge, total, Kept}
 use Rattle.relaxation.specs.Network.{edgesOf}
 use Rattle.relaxation.proofs.EdgesLaws.{length-edgesOf, edge-at}
 use Rattle.table.specs.Limits.{maxWeight}
-use Rattle.layering.specs.Flat.{NodeEnds}
+use Rattle.acyclic.specs.Ends.{NodeEnds}
 use Rattle.layering.specs.Placed.{topRow, FairEdges, Even, SolvedRows, RowsSummable}
 use Rattle.layering.proofs.PlaceLaws.{fair-few, fair-ends, fair-edge, best-low}
 

@@ -19,7 +19,7 @@ use Rattle.buffers.specs.Padded.{padded}
 use Rattle.layering.specs.declared.types.RowsAnswer.{RowsAnswer}
 use Rattle.layering.specs.declared.types.RowsAnswer.the-variants.{Done, Refused}
 use Rattle.layering.specs.declared.types.TableRows.{TableRows}
-use Rattle.layering.specs.Loops.{lowestOnLoop}
+use Rattle.acyclic.specs.Loops.{lowestOnLoop}
 
 -- ---- rows of edges
 

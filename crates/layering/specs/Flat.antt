@@ -1,24 +1,12 @@
--- Edges as flat slices, one slice a field: what the ends and the gaps must be; and edges in flat arrays.
+-- Edges in flat arrays, one array a field.
 use mathlib.Core.Path.{_≡_}
 use mathlib.Core.List.{List}
-use Prim.Native.Nat.{ℕ, _<_}
+use Prim.Native.Nat.{ℕ}
 use lib.ListN.{length, take}
 use Rattle.graph.specs.declared.Edge.{Edge}
-use Rattle.graph.specs.Rows.{at}
 use Rattle.relaxation.specs.Network.{edgesOf}
 use Rattle.table.specs.Limits.{maxEdges}
 use Rattle.layering.specs.declared.edges.Flat.{Flat}
-
--- two slices of one length, whose entries are nodes, of which there are n
-pub record NodeEnds (n : ℕ) (from to : List ℕ) : Type 0 where
-  pub to-long : length to ≡ length from
-  pub from-in : (i : ℕ) → i < length from → at from i < n
-  pub to-in : (i : ℕ) → i < length from → at to i < n
-
--- a gap for each of m edges, none of them 0
-pub record Gaps (m : ℕ) (gap : List ℕ) : Type 0 where
-  pub long : length gap ≡ m
-  pub positive : (i : ℕ) → i < m → 0 < at gap i
 
 -- the first m edges of flat arrays
 abbrev pub frontEdges : ℕ → Flat → List Edge

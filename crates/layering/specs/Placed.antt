@@ -16,7 +16,7 @@ use Rattle.buffers.specs.Padded.{padded}
 use Rattle.table.specs.Fair.{FairEdge}
 use Rattle.layering.specs.declared.types.RowsAnswer.{RowsAnswer}
 use Rattle.layering.specs.declared.types.RowsFound.{RowsFound}
-use Rattle.layering.specs.Flat.{NodeEnds}
+use Rattle.acyclic.specs.Ends.{NodeEnds}
 use Rattle.layering.specs.Calls.{rowsFound, rowsBy, totalBy, rowsEnd, rowsNumbers, rowsOfTable, rowsOfRecords}
 
 -- an outcome by its verdict

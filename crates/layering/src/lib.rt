@@ -4,11 +4,9 @@
 // definition of specs/Calls.antt makes of the input, and says of the rows of an answer that they are the best.
 mod edges;
 mod lent;
-mod loops;
 mod numbers;
 mod place;
 mod records;
-mod settle;
 mod store;
 mod total;
 pub mod types;

@@ -1,9 +1,10 @@
 // Rows of edges: a loop is refused, and the solver finds the rows of any other edges.
 use crate::edges::Flat;
-use crate::loops::find_loop;
-use crate::settle::Found;
 use crate::total::total_rows;
 use crate::types::RowsFound;
+use acyclic::find_loop;
+use acyclic::settle::Found;
+use buffers::copy_front;
 use outcome::Refusal;
 use outcome::Verdict;
 use table::limits::MAX_EDGES;
@@ -11,7 +12,8 @@ use table::limits::MAX_GAP;
 use table::limits::MAX_STEPS;
 ghost use mathlib.Core.Path.{_≡_};
 ghost use Prim.Native.Nat.{_≤_};
-ghost use lib.ListN.{length};
+ghost use lib.ListN.{length, take};
+ghost use Rattle.buffers.specs.Padded.{padded};
 ghost use Rattle.relaxation.specs.Network.{edgesOf, Network, Bounded};
 ghost use Rattle.relaxation.specs.Limits.{rowLimit};
 ghost use Rattle.table.specs.Limits.{maxSteps, maxEdges};
@@ -53,7 +55,7 @@ fn place_flat(from: &[usize], to: &[usize], gap: &[usize], weight: &[usize], n: 
     match find_loop(from, to, gap, n, MAX_STEPS * MAX_GAP, &mut y, &mut seen) {
         Found::At(s) => refuse_rows(Refusal::Loop(s)),
         Found::Nothing => {
-            let rows = solve_rows(from, to, gap, weight, n);
+            let rows = solve_rows(from, to, gap, weight, n, y);
             let total = total_rows(from, to, weight, &rows[..n]);
             RowsFound {
                 verdict: Verdict::Accepted,
@@ -64,21 +66,23 @@ fn place_flat(from: &[usize], to: &[usize], gap: &[usize], weight: &[usize], n: 
     }
 }
 
-// The best rows of edges that some rows keep. All but the rows is scratch of the solver.
+// The best rows of edges that some rows keep. The solver begins at the rows that settled, and all else is its scratch.
 fn solve_rows(
     from: &[usize],
     to: &[usize],
     gap: &[usize],
     weight: &[usize],
     n: usize,
+    settled: [usize; MAX_STEPS],
 ) -> [usize; MAX_STEPS]
     requires { ⌜ Network (now from) (now to) (now gap) (now weight) n ⌝ }
     requires { ⌜ Bounded (now from) (now to) (now gap) n rowLimit ⌝ }
     requires { ⌜ (n ≤ maxSteps) × (length (now from) ≤ maxEdges) ⌝ }
+    requires { ⌜ length settled ≡ maxSteps ⌝ }
     ensures { λ r. ⌜ SolvedRows n (edgesOf (now (from .entry)) (now (to .entry)) (now (gap .entry)) (now (weight .entry))) r ⌝ }
 {
     let m = from.len();
-    let mut y = [0usize; MAX_STEPS];
+    let mut y = settled;
     let mut flow = [0usize; MAX_EDGES];
     let mut rank = [0usize; MAX_STEPS];
     let mut parent = [0usize; MAX_STEPS];
@@ -111,5 +115,15 @@ fn solve_rows(
         &mut queue,
         &mut lowest[..n],
     );
-    y
+    pad_rows(y, n)
+}
+
+// The first n rows in an array, whose others are 0.
+fn pad_rows(all: [usize; MAX_STEPS], n: usize) -> [usize; MAX_STEPS]
+    requires { ⌜ (n ≤ maxSteps) × (length all ≡ maxSteps) ⌝ }
+    ensures { λ r. ⌜ r ≡ padded maxSteps 0 (take n all) ⌝ }
+{
+    let mut rows = [0usize; MAX_STEPS];
+    copy_front(&all[..n], &mut rows);
+    rows
 }

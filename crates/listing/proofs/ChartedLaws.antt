@@ -13,7 +13,8 @@ use Rattle.outcome.specs.declared.Refusal.{Refusal}
 use Rattle.outcome.specs.declared.Refusal.the-variants.{ManyPoints}
 use Rattle.table.specs.declared.types.Table.{Table}
 use Rattle.outcome.specs.declared.Verdict.the-variants.{Accepted}
-use Rattle.table.specs.Limits.{maxSteps, maxEdges, maxPoints}
+use Rattle.table.specs.Limits.{maxSteps, maxEdges}
+use Rattle.points.specs.Limits.{maxPoints}
 use Rattle.outcome.specs.Refusal.{Outcome, done, refused, thenDo, demand}
 use Rattle.table.specs.Table.{Contents, contentsOf, read}
 use Rattle.table.specs.Calls.{noStep, readCall}
@@ -24,7 +25,7 @@ use Rattle.layering.specs.Placed.{outcomeBy}
 use Rattle.ordering.specs.declared.Figures.{Figures}
 use Rattle.ordering.specs.declared.types.ChartFound.{ChartFound}
 use Rattle.points.specs.Points.{rowCount}
-use Rattle.ordering.specs.Fewest.{drawingOf}
+use Rattle.drawing.specs.Fewest.{drawingOf}
 use Rattle.ordering.specs.Calls.{Placing, pointCount, unlessMany, chartOfTable, Charted, charted, chartOut}
 use Rattle.ordering.specs.Charting.{chartedBy, TableFound}
 

@@ -10,7 +10,8 @@ use Rattle.graph.specs.declared.Edge.{Edge}
 use Rattle.graph.specs.Rows.{at, noEdge, total}
 use Rattle.table.specs.declared.types.Step.{Step}
 use Rattle.table.specs.declared.types.Table.{Table}
-use Rattle.table.specs.Limits.{maxSteps, maxPoints}
+use Rattle.table.specs.Limits.{maxSteps}
+use Rattle.points.specs.Limits.{maxPoints}
 use Rattle.table.specs.Fair.{Fair}
 use Rattle.table.specs.Calls.{noStep}
 use Rattle.buffers.specs.Padded.{padded}
@@ -18,10 +19,10 @@ use Rattle.buffers.proofs.PaddedLaws.{padded-long}
 use Rattle.table.proofs.FairLaws.{read-fair}
 use Rattle.ordering.specs.declared.types.ChartFound.{ChartFound}
 use Rattle.points.specs.Points.{Dummy, dummies, pointRows, rowCount}
-use Rattle.ordering.specs.Fewest.{drawingOf}
+use Rattle.drawing.specs.Fewest.{drawingOf}
 use Rattle.buffers.specs.Written.{Stored}
 use Rattle.buffers.proofs.WriteLaws.{stored-append, stored-long, written-take}
-use Rattle.ordering.proofs.CompleteLaws.{drawing-count, drawing-points}
+use Rattle.drawing.proofs.CompleteLaws.{drawing-count, drawing-points}
 use Rattle.listing.specs.Listing.{headText, pointText, rowLines, chartText, listing}
 use Rattle.listing.specs.Widths.{maxListing}
 use Rattle.listing.specs.Printing.{labelText, linesFrom, ownersOf, dummyRows, Layable, Sheet}

@@ -4,7 +4,8 @@ use mathlib.Core.List.{List}
 use Prim.Native.Nat.{ℕ, _<_}
 use native.Mathlib.Omega.{arith}
 use lib.Seq.{take-all}
-use Rattle.table.specs.Limits.{maxTable, maxInput}
+use Rattle.table.specs.Limits.{maxTable}
+use Rattle.listing.specs.Widths.{maxInput}
 use Rattle.outcome.specs.Refusal.{Outcome, done, refused}
 use Rattle.table.specs.Table.{Contents, read}
 use Rattle.table.proofs.PrefixLaws.{read-short, read-prefix}

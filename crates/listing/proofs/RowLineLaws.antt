@@ -16,10 +16,10 @@ use Rattle.table.specs.Limits.{maxSteps}
 use Rattle.table.specs.Calls.{noStep}
 use Rattle.buffers.specs.Padded.{padded}
 use Rattle.points.specs.Points.{Dummy, pointRows, rowCount}
-use Rattle.ordering.specs.Fewest.{drawingOf}
+use Rattle.drawing.specs.Fewest.{drawingOf}
 use Rattle.buffers.specs.Lists.{occurs}
 use Rattle.buffers.proofs.OccursLaws.{at-occurs}
-use Rattle.ordering.proofs.CompleteLaws.{drawing-rows, drawing-once, drawing-none}
+use Rattle.drawing.proofs.CompleteLaws.{drawing-rows, drawing-once, drawing-none}
 use Rattle.listing.specs.Text.{decimal}
 use Rattle.listing.specs.Listing.{line, stepText, dummyText, noDummy, pointText, rowLines}
 use Rattle.listing.specs.Printing.{labelText, leading, lineIn, linesFrom, ownersOf}

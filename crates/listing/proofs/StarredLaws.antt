@@ -6,16 +6,16 @@ use Rattle.graph.specs.Search.{run, keepsOne, keeps, sieve, extend, placements,
 use Rattle.table.specs.Number.{byteAt, numberAt, numberIn, many}
 use Rattle.table.specs.Table.{adjustAt, waitAt, kindAt, nameByteAt, nameAt, namedAt, stepAt, endAt, edgeBetween, edgeAt, stepsAt, edgesAt, listsAt, tableAt, read}
 use Rattle.table.specs.Starred.{Case}
-use Rattle.layering.specs.Loops.{mark, sweep, sweeps, reached, onLoop, firstFrom, lowestOnLoop}
+use Rattle.acyclic.specs.Loops.{mark, sweep, sweeps, reached, onLoop, firstFrom, lowestOnLoop}
 use Rattle.layering.specs.Calls.{rowsFound}
 use Rattle.points.specs.Points.{dummies, pointRows, chain, segmentsFrom, segments, rowCount}
 use Rattle.points.specs.Positions.{position, place}
 use Rattle.buffers.specs.Lists.{sum}
 use Rattle.barycentre.specs.Means.{meanOf, insert, sortOnto, moving, fill, reorder}
-use Rattle.ordering.specs.Order.{pointsIn, startOrder, settleRow, downFrom, upFrom, results}
+use Rattle.passes.specs.Order.{pointsIn, startOrder, settleRow, downFrom, upFrom, results}
 use Rattle.barycentre.specs.PointEnds.{ends}
 use Rattle.crossings.specs.Crossings.{crossingsWith, crossingPairs, crossings}
-use Rattle.ordering.specs.Fewest.{drawn, fewest, bestOrder, drawingOf}
+use Rattle.drawing.specs.Fewest.{drawn, fewest, bestOrder, drawingOf}
 use Rattle.ordering.specs.Calls.{chartOfTable}
 use Rattle.listing.specs.Text.{digits}
 use Rattle.listing.specs.Listing.{blanked, rowLines, chartText, listing}

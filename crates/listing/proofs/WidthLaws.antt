@@ -17,7 +17,8 @@ use Rattle.table.specs.declared.types.Kind.the-variants.{Check, Adjust, Wait}
 use Rattle.outcome.specs.declared.Refusal.{Refusal}
 use Rattle.outcome.specs.declared.Refusal.the-variants.{Cut, Overlong, BadEdition, ManySteps, BadKind, OutOfRange, BadNameByte, ManyEdges, BadEnd, Spare, Loop, ManyPoints, ShortBuffer, NoStep}
 use Rattle.table.specs.declared.types.Step.{Step}
-use Rattle.table.specs.Limits.{maxSteps, maxEdges, maxWeight, maxPoints}
+use Rattle.table.specs.Limits.{maxSteps, maxEdges, maxWeight}
+use Rattle.points.specs.Limits.{maxPoints}
 use Rattle.outcome.specs.Refusal.{Outcome, done, refused, thenDo, demand, numbersOf}
 use Rattle.table.specs.Table.{Contents, read}
 use Rattle.table.specs.Calls.{noStep}
@@ -25,15 +26,15 @@ use Rattle.table.specs.Fair.{KindInRange, FairStep, Fair}
 use Rattle.table.proofs.FairLaws.{read-fair}
 use Rattle.table.proofs.RangeLaws.{read-range}
 use Rattle.outcome.proofs.ToldLaws.{alone}
-use Rattle.layering.specs.Loops.{lowestOnLoop}
+use Rattle.acyclic.specs.Loops.{lowestOnLoop}
 use Rattle.layering.specs.Calls.{unlessLoop, rowsFound}
 use Rattle.layering.specs.Placed.{topRow}
 use Rattle.layering.proofs.StepLaws.{StepLow, never}
 use Rattle.ordering.proofs.StepLaws.{chart-of-step}
 use Rattle.points.specs.Points.{Dummy, between, dummies, rowCount}
-use Rattle.ordering.specs.Fewest.{Drawing, drawingOf}
+use Rattle.drawing.specs.Fewest.{Drawing, drawingOf}
 use Rattle.ordering.specs.Calls.{Placing, pointCount, unlessMany, chartOfTable}
-use Rattle.ordering.proofs.CompleteLaws.{drawing-rows, drawing-count}
+use Rattle.drawing.proofs.CompleteLaws.{drawing-rows, drawing-count}
 use Rattle.ordering.proofs.FigureLaws.{crossings-low, total-low}
 use Rattle.listing.specs.Text.{text, newline, decimal}
 use Rattle.listing.specs.Listing.{blanked, line, kindText, stepText, dummyText, noDummy, pointText, headText, rowLines, chartText, refusalText, outcomeText, listing}

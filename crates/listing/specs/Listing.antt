@@ -12,7 +12,7 @@ use Rattle.table.specs.declared.types.Step.{Step}
 use Rattle.table.specs.Calls.{noStep}
 use Rattle.outcome.specs.Refusal.{Outcome, done, refused, numbersOf}
 use Rattle.points.specs.Points.{Dummy, dummies, rowCount}
-use Rattle.ordering.specs.Fewest.{drawingOf}
+use Rattle.drawing.specs.Fewest.{drawingOf}
 use Rattle.ordering.specs.Calls.{Placing, chartOfTable}
 use Rattle.listing.specs.Text.{text, blank, newline, decimal}
 

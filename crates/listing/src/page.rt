@@ -6,7 +6,7 @@ use crate::lines::put_rows;
 use ordering::chart_table;
 use ordering::types::ChartFound;
 use outcome::Verdict;
-use table::limits::MAX_POINTS;
+use points::limits::MAX_POINTS;
 use table::types::Table;
 ghost use mathlib.Core.Path.{_≡_};
 ghost use Prim.Native.Nat.{_≤_};

@@ -7,7 +7,8 @@ use native.Mathlib.Omega.{arith}
 use lib.ListN.{length, set, drop}
 use Rattle.graph.specs.Rows.{at}
 use Rattle.relaxation.specs.Certificate.{Relaxed, Certified}
-use Rattle.relaxation.specs.Network.{sum, Shaped}
+use Rattle.buffers.specs.Lists.{sum}
+use Rattle.relaxation.specs.Network.{Shaped}
 use Rattle.relaxation.proofs.BestLaws.{certified-best, certified-bounded}
 use Rattle.transport.proofs.SumLaws.{sum-sub, sum-none}
 use Rattle.transport.proofs.FlowLaws.{owed-none}

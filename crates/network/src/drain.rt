@@ -2,9 +2,9 @@
 use augment::push::push_flow;
 use augment::tree::grow_tree;
 use augment::tree::plant_root;
-use relaxation::fill::read_entry;
-use relaxation::fill::smaller_of;
-use relaxation::fill::take_at;
+use buffers::read_entry;
+use buffers::smaller_of;
+use buffers::take_at;
 use relaxation::low::lower_rows;
 ghost use mathlib.Core.Path.{_≡_};
 ghost use Prim.Native.Nat.{_<_};
@@ -13,7 +13,8 @@ ghost use Rattle.transport.specs.Flow.{Flows};
 ghost use Rattle.relaxation.specs.Low.{RowsLow};
 ghost use Rattle.network.specs.Drain.{Sendable, Sent, Drained, Picks, NextSupply, DrainedAll};
 ghost use Rattle.relaxation.specs.Limits.{weightLimit, calmLimit};
-ghost use Rattle.relaxation.specs.Network.{sum, Shaped, Narrow, Lengths};
+ghost use Rattle.buffers.specs.Lists.{sum};
+ghost use Rattle.relaxation.specs.Network.{Shaped, Narrow, Lengths};
 
 // As much as can come to node t and t wants, sent there from node s over the tree; what s has still to send.
 fn send_flow(

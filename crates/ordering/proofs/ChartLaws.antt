@@ -12,19 +12,19 @@ use Rattle.graph.specs.Rows.{at, noEdge, total}
 use Rattle.outcome.specs.declared.Refusal.{Refusal}
 use Rattle.outcome.specs.declared.Refusal.the-variants.{ManyPoints}
 use Rattle.outcome.specs.declared.Verdict.the-variants.{Accepted, Refused}
-use Rattle.table.specs.Limits.{maxPoints}
+use Rattle.points.specs.Limits.{maxPoints}
 use Rattle.outcome.specs.Refusal.{Outcome, done, refused}
 use Rattle.buffers.specs.Padded.{padded}
 use Rattle.buffers.proofs.PaddedLaws.{padded-long, padded-front}
 use Rattle.ordering.specs.declared.types.ChartFound.{ChartFound}
 use Rattle.points.specs.Points.{pointRows, rowCount}
-use Rattle.ordering.specs.Fewest.{Drawing, drawingOf}
+use Rattle.drawing.specs.Fewest.{Drawing, drawingOf}
 use Rattle.points.specs.Laying.{edgesBetween, Chart}
 use Rattle.ordering.specs.Calls.{pointCount, Charted, chartBy, ChartArrays, arraysOf, arraysIn}
 use Rattle.layering.specs.Placed.{outcomeBy}
 use Rattle.ordering.specs.Charting.{noChart, chartedBy, Sizable, PointsAre, RowsGiven, ChartHeld, unlessLarge, EdgesFound}
 use Rattle.points.proofs.PointLaws.{tails, heads, any-points, any-segments}
-use Rattle.ordering.proofs.CompleteLaws.{drawing-count, drawing-points}
+use Rattle.drawing.proofs.CompleteLaws.{drawing-count, drawing-points}
 
 -- the drawing of edges is that of their ends
 drawing-of-ends : (ys : List ℕ) (edges : List Edge) → drawingOf ys (edgesBetween (tails edges) (heads edges)) ≡ drawingOf ys edges

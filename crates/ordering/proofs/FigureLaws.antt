@@ -13,7 +13,8 @@ use Rattle.graph.specs.declared.Edge.{Edge}
 use Rattle.graph.specs.Rows.{at, noEdge, total}
 use Rattle.outcome.specs.declared.Refusal.{Refusal}
 use Rattle.outcome.specs.declared.Refusal.the-variants.{ManyPoints, ShortBuffer}
-use Rattle.table.specs.Limits.{maxEdges, maxPoints, maxWeight}
+use Rattle.table.specs.Limits.{maxEdges, maxWeight}
+use Rattle.points.specs.Limits.{maxPoints}
 use Rattle.outcome.specs.Refusal.{Outcome, done, refused, thenDo, demand, numbersOf, refusalIn}
 use Rattle.outcome.proofs.ToldLaws.{number-some}
 use Rattle.table.specs.Table.{Contents, contentsOf, read}
@@ -23,12 +24,12 @@ use Rattle.layering.specs.Placed.{topRow, FairEdges}
 use Rattle.layering.proofs.PlaceLaws.{best-low}
 use Rattle.ordering.specs.declared.Figures.{Figures}
 use Rattle.points.specs.Points.{pointRows, segments, rowCount}
-use Rattle.ordering.specs.Fewest.{bestOrder, drawingOf}
+use Rattle.drawing.specs.Fewest.{bestOrder, drawingOf}
 use Rattle.ordering.specs.Calls.{Placing, Charted, ChartEnd, pointCount, unlessMany, chartOfTable, charted, chartOut, figuresNumbers, filled, chartEnd, chartCall, DrawnBest, ChartBest}
 use Rattle.ordering.specs.Charting.{Small}
 use Rattle.points.proofs.PointLaws.{points-length, segments-length}
 use Rattle.crossings.proofs.CrossingsLaws.{crossings-most}
-use Rattle.ordering.proofs.FewestLaws.{best-crossings}
+use Rattle.drawing.proofs.FewestLaws.{best-crossings}
 
 -- Each edge has one segment more than dummies, so there are fewer segments than points and edges together, and twice the crossings are
 -- at most the square of that number.

@@ -9,7 +9,8 @@ use Rattle.graph.specs.declared.Edge.{Edge}
 use Rattle.graph.specs.Rows.{at, total, Best}
 use Rattle.outcome.specs.declared.Refusal.the-variants.{ManyPoints, ShortBuffer}
 use Rattle.table.specs.declared.types.Table.{Table}
-use Rattle.table.specs.Limits.{maxSteps, maxPoints}
+use Rattle.table.specs.Limits.{maxSteps}
+use Rattle.points.specs.Limits.{maxPoints}
 use Rattle.outcome.specs.Refusal.{Outcome, done, refused, thenDo, demand, numbersOf, told, bare, verdictNumbers, refusalIn}
 use Rattle.table.specs.Table.{Contents, contentsOf, read}
 use Rattle.table.specs.Calls.{readCall}
@@ -21,7 +22,7 @@ use Rattle.ordering.specs.declared.ChartAnswer.the-variants.{Drawn, Refu
 use Rattle.ordering.specs.declared.types.ChartFound.{ChartFound}
 use Rattle.ordering.specs.declared.types.TableChart.{TableChart}
 use Rattle.points.specs.Points.{pointRows, rowCount}
-use Rattle.ordering.specs.Fewest.{drawingOf}
+use Rattle.drawing.specs.Fewest.{drawingOf}
 
 -- ---- the chart of a table
 

@@ -9,7 +9,8 @@ use Rattle.graph.specs.Rows.{at, total, Best}
 use Rattle.outcome.specs.declared.Refusal.{Refusal}
 use Rattle.outcome.specs.declared.Refusal.the-variants.{ManyPoints}
 use Rattle.outcome.specs.declared.Verdict.the-variants.{Accepted, Refused}
-use Rattle.table.specs.Limits.{maxSteps, maxEdges, maxPoints, maxWeight}
+use Rattle.table.specs.Limits.{maxSteps, maxEdges, maxWeight}
+use Rattle.points.specs.Limits.{maxPoints}
 use Rattle.outcome.specs.Refusal.{Outcome, done, demand}
 use Rattle.table.specs.Table.{contentsOf, read}
 use Rattle.buffers.specs.Padded.{padded}
@@ -18,10 +19,10 @@ use Rattle.ordering.specs.declared.Figures.{Figures}
 use Rattle.ordering.specs.declared.ChartAnswer.{ChartAnswer}
 use Rattle.ordering.specs.declared.types.ChartFound.{ChartFound}
 use Rattle.points.specs.Points.{pointRows, rowCount}
-use Rattle.ordering.specs.Fewest.{drawingOf}
+use Rattle.drawing.specs.Fewest.{drawingOf}
 use Rattle.buffers.specs.Lists.{Below}
 use Rattle.points.specs.Laying.{edgesBetween, Chart}
-use Rattle.ordering.specs.Drawing.{DrawnIs}
+use Rattle.drawing.specs.Drawing.{DrawnIs}
 use Rattle.ordering.specs.Calls.{pointCount, Charted, charted, chartOut, chartOfTable, chartEnd, chartNumbers, chartBy, arraysOf, arraysIn}
 
 -- the first m entries of two arrays are the ends of the first m edges

@@ -1,9 +1,3 @@
--- The order of points in their rows and the whole chart: document 01 under "Pass points and order".
-pub mod Order
-pub mod Fewest
-pub mod Starts
-pub mod Laid
-pub mod Drawing
-pub mod Drafts
+-- The whole chart, its rows and the order of its points: document 01 under "Pass points and order".
 pub mod Calls
 pub mod Charting

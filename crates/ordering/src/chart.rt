@@ -1,18 +1,19 @@
 // The chart of edges in their best rows: the order of its points, or why there is none.
-use crate::draw::draw_points;
 use crate::types::ChartFound;
+use drawing::draw_points;
 use graph::Edge;
 use outcome::Refusal;
 use outcome::Verdict;
 use points::count_points;
 use points::count_rows;
+use points::limits::MAX_POINTS;
 use table::limits::MAX_EDGES;
-use table::limits::MAX_POINTS;
 use table::limits::MAX_STEPS;
 ghost use mathlib.Core.Path.{_≡_};
 ghost use Prim.Native.Nat.{_≤_};
 ghost use lib.ListN.{length, take};
-ghost use Rattle.table.specs.Limits.{maxEdges, maxPoints};
+ghost use Rattle.table.specs.Limits.{maxEdges};
+ghost use Rattle.points.specs.Limits.{maxPoints};
 ghost use Rattle.buffers.specs.Padded.{padded};
 ghost use Rattle.ordering.specs.Charting.{Split, Sizable, PointsAre, RowsGiven, noChart, EdgesFound};
 

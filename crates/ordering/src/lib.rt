@@ -4,9 +4,6 @@
 // definition of specs/Calls.antt makes of the input, and say of the rows of an answer that they are the best and of its total that it is
 // theirs.
 mod chart;
-mod draw;
-mod passes;
-mod start;
 mod store;
 pub mod types;
 

@@ -1,6 +1,6 @@
 // What the orderer hands to a layer above.
 use outcome::Verdict;
-use table::limits::MAX_POINTS;
+use points::limits::MAX_POINTS;
 use table::limits::MAX_STEPS;
 use table::types::Table;
 

@@ -2,3 +2,6 @@ pub mod EdgeLaws
 pub mod PointLaws
 pub mod NeighbourLaws
 pub mod RowCountLaws
+pub mod ListLaws
+pub mod LinkLaws
+pub mod PositionLaws

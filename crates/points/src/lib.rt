@@ -1,4 +1,7 @@
 // The points of a chart: counted, their rows laid out, and the segments between them; and the number of rows.
+pub mod limits;
+pub mod lists;
+
 use buffers::copy_front;
 use buffers::larger_of;
 ghost use mathlib.Core.Path.{_≡_};

@@ -59,7 +59,14 @@ module _ (from to gap weight flow : List ℕ) (n : ℕ) (shape : Shaped from to 
     tight-of : UsedTight (edgesOf from to gap weight) flow (at (take n y))
     tight-of i b u =
         rw (edge-at from to gap weight i (inside i b))
-        (omega (arith, taken (at from i) (shape .from-in i (inside i b)), taken (at to i) (shape .to-in i (inside i b)), held .kept i (inside i b), held .tight i (inside i b) u))
+        (omega (
+          arith,
+          taken (at from i) (shape .from-in i (inside i b)),
+          taken (at to i) (shape .to-in i (inside i b)),
+          held .kept i
+              (inside i b),
+          held .tight i (inside i b) u,
+        ))
 
     module _ (lf : length flow ≡ length from) (lw : length weight ≡ length from) (balance : Balance from to flow weight)
         (heights : (v : ℕ) → v < n → Height from to gap flow v (at y v)) where

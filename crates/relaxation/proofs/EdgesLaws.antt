@@ -9,7 +9,7 @@ use Rattle.graph.specs.Rows.{noEdge, at}
 use Rattle.relaxation.specs.Certificate.{flux}
 use Rattle.relaxation.specs.Network.{edgesOf}
 use Rattle.graph.proofs.FlowLaws.{dot, weights}
-use Rattle.relaxation.proofs.ListLaws.{at-tail}
+use Rattle.buffers.proofs.ListLaws.{at-tail}
 
 pub length-edgesOf : (from to gap weight : List ℕ) → length (edgesOf from to gap weight) ≡ length from
 unfolding edgesOf

@@ -1,9 +1,9 @@
 -- Why it holds, by subject.
 pub mod IndexLaws
-pub mod ListLaws
 pub mod EdgesLaws
 pub mod RelaxLaws
 pub mod SweepLaws
 pub mod BestLaws
 pub mod BalanceLaws
 pub mod LowLaws
+pub mod LowestLaws

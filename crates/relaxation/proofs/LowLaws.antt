@@ -1,16 +1,16 @@
 -- Low rows: relaxed rows are low, and low rows can be relaxed again.
-use mathlib.Core.Path.{_≡_, ap}
+use mathlib.Core.Path.{_≡_, ap, _∙_}
 use mathlib.Core.List.{List}
 use Prim.Native.Nat.{ℕ, _≤_}
 use native.Mathlib.Omega.{arith}
-use lib.ListN.{length, replicate}
+use lib.ListN.{length, replicate, length-replicate}
 use Rattle.graph.specs.Rows.{at}
 use Rattle.relaxation.specs.Certificate.{Held, Relaxed}
 use Rattle.relaxation.specs.Limits.{rowLimit, calmLimit}
 use Rattle.relaxation.specs.Low.{RowsLow, Lowered}
 use Rattle.relaxation.specs.Network.{Shaped, Narrow, Bounded}
-use Rattle.relaxation.specs.Relax.{Holder, Sums}
-use Rattle.relaxation.proofs.ListLaws.{zero-at}
+use Rattle.relaxation.specs.Relax.{Holder, Sums, EdgesKept}
+use Rattle.buffers.proofs.ListLaws.{zero-at}
 use Rattle.relaxation.proofs.BestLaws.{certified-low}
 
 pub low-sums : (from to gap : List ℕ) (n : ℕ) (y : List ℕ) → Shaped from to gap n → Narrow gap n → RowsLow n calmLimit y → Sums from gap y
@@ -32,8 +32,27 @@ holder-of from to gap flow n y b h l le = record { rows = at y; held = h; low = 
 
 pub holder-start : (from to gap flow : List ℕ) (n : ℕ) → flow ≡ replicate (length from) 0 → Bounded from to gap n rowLimit
     → Holder from to gap flow n rowLimit
-holder-start from to gap flow n e b = record { rows = b .rows; held = record { kept = b .kept; tight = λ a h u. absurd (omega (arith, ap (λ (l : List ℕ). at l a) e, zero-at (length from) a)) }; low = b .low }
+holder-start from to gap flow n e b = record {
+  rows = b .rows;
+  held = record {
+    kept = b .kept;
+    tight = λ a h u. absurd (omega (
+      arith,
+      ap (λ
+          (l : List ℕ). at l a) e,
+      zero-at (length from) a,
+    ));
+  };
+  low = b .low;
+}
 
 pub holder-calm : (from to gap flow : List ℕ) (n : ℕ) (y : List ℕ) → Held from to gap flow (at y) → RowsLow n calmLimit y
     → Holder from to gap flow n rowLimit
 holder-calm from to gap flow n y h l = holder-of from to gap flow n y calmLimit h l (omega arith)
+
+pub zero-long : (from flow : List ℕ) → flow ≡ replicate (length from) 0 → length flow ≡ length from
+zero-long from flow e = ap length e ∙ length-replicate {A = ℕ} (length from) 0
+
+-- Rows that keep every edge are held while no edge is used.
+pub held-zero : (from to gap flow y : List ℕ) → flow ≡ replicate (length from) 0 → EdgesKept from to gap y → Held from to gap flow (at y)
+held-zero from to gap flow y e k = record { kept = k .kept; tight = λ a h u. absurd (omega (arith, ap (λ (l : List ℕ). at l a) e, zero-at (length from) a)) }

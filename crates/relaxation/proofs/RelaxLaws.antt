@@ -8,10 +8,10 @@ use lib.ListN.{length, getD, set, drop, take, replicate, getD-replicate, length-
 use lib.Seq.{drop-set-lt, drop-at, getD-take, length-take-le}
 use Rattle.graph.specs.Rows.{at}
 use Rattle.relaxation.specs.Certificate.{Held, Height, ground, over, under, Relaxed}
-use Rattle.relaxation.specs.Limits.{wordLimit}
+use Rattle.buffers.specs.Written.{wordLimit}
 use Rattle.relaxation.specs.Network.{Shaped}
 use Rattle.relaxation.specs.Relax.{Holder, Sums, Heights, headroom, Lifts, up, down}
-use Rattle.relaxation.proofs.ListLaws.{set-cases}
+use Rattle.buffers.proofs.ListLaws.{set-cases}
 
 pub headroom-set : (top : ℕ) (l : List ℕ) (i v : ℕ) → i < length l → getD l i 0 < v → v ≤ top → headroom top (set l i v) < headroom top l
 unfolding headroom
@@ -73,7 +73,8 @@ module _ (from to gap flow : List ℕ) (n : ℕ) where
       pub lift-heights : Lifts from to gap flow y a y′ → Heights from to gap flow n y′
       lift-heights (up s e) = rw e (record {
         each = λ v b. set-cases (λ (k : ℕ). Height from to gap flow v k) y (at to a) _ v (le-trans (shape .to-in a h) fits)
-            (λ q. subst (λ (w : ℕ). Height from to gap flow w (at y (at from a) + at gap a)) q (over a h (hs .each (at from a) (shape .from-in a h)))) (λ _. hs .each v b);
+            (λ q. subst (λ (w : ℕ). Height from to gap flow w (at y (at from a) + at gap a)) q (over a h (hs .each (at from a)
+            (shape .from-in a h)))) (λ _. hs .each v b);
       })
       lift-heights (down u s e) = rw e (record {
         each = λ v b. set-cases (λ (k : ℕ). Height from to gap flow v k) y (at from a) _ v (le-trans (shape .from-in a h) fits)

@@ -11,7 +11,7 @@ use Rattle.graph.specs.Rows.{at}
 use Rattle.relaxation.specs.Limits.{rowLimit}
 use Rattle.relaxation.specs.Network.{Shaped}
 use Rattle.relaxation.specs.Relax.{Holder, Sums, TailIs, MovedIs, neither, tail-moved, head-moved, up, down, Eases, holds, lifts, Heights, headroom, Swept}
-use Rattle.relaxation.proofs.ListLaws.{miss}
+use Rattle.buffers.proofs.ListLaws.{miss}
 use Rattle.relaxation.proofs.RelaxLaws.{shaped-up, sums, lift-heights, lift-long, lift-rest, lift-less}
 
 -- Both ends of an edge are written. A head that is too low comes to the tail's row plus the gap; a tail below a used edge that is too long
@@ -38,7 +38,15 @@ module _ (from to gap flow y : List ℕ) (a low high r : ℕ)
       lifts o (down (up-by .0) (omega arith) (is ∙ ap (set y (at from a)) (omega arith)))
   eases (head-moved o ne) =
       let k : at y (at to a) < at y (at from a) + at gap a = omega (arith, ne) in
-      let still : low ≡ at y (at from a) = elim (ℕ-discrete low (at y (at from a))) [ yes e ↦ e | no q ↦ absurd (omega (arith, q, tail .no-lower, tail .raised (omega (arith, q, tail .no-lower)))) ] in
+      let still : low ≡ at y (at from a) = elim (ℕ-discrete low (at y (at from a))) [
+        | yes e ↦ e
+        | no q ↦ absurd (omega (
+          arith,
+          q,
+          tail .no-lower,
+          tail .raised (omega (arith, q, tail .no-lower)),
+        ))
+      ] in
       lifts o (up k
       (ap (λ (l : List ℕ). set l (at to a) high) (ap (set y (at from a)) still ∙ set-getD y (at from a) 0)
       ∙ ap (set y (at to a)) (omega arith)))
@@ -61,7 +69,16 @@ pub record Sweeping (from to gap flow : List ℕ) (n : ℕ) (old y : List ℕ) (
 module _ (from to gap flow : List ℕ) (n : ℕ) (shape : Shaped from to gap n) (hold : Holder from to gap flow n rowLimit) where
   pub sweeping-start : (y : List ℕ) → Heights from to gap flow n y → Sweeping from to gap flow n y y 0 0
   sweeping-start y hs =
-      record { long = refl; rest = refl; heights = hs; none = λ e i h. absurd (not-suc-le-zero h); less = omega arith; some = λ p. absurd (not-suc-le-zero p); few = omega arith }
+      record {
+        long = refl;
+        rest = refl;
+        heights = hs;
+        none = λ e i h. absurd (not-suc-le-zero h);
+        less = omega arith;
+        some = λ p. absurd
+            (not-suc-le-zero p);
+        few = omega arith;
+      }
 
   module _ (old y : List ℕ) (lifted a : ℕ) (fits : n ≤ length old) (s : Sweeping from to gap flow n old y lifted a) where
     pub fits-now : n ≤ length y

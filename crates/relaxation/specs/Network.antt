@@ -6,6 +6,7 @@ use Prim.Native.Nat.{ℕ, _+_, _≤_, _<_}
 use lib.ListN.{length}
 use Rattle.graph.specs.declared.Edge.{Edge}
 use Rattle.graph.specs.Rows.{at}
+use Rattle.buffers.specs.Lists.{sum}
 use Rattle.relaxation.specs.Limits.{nodeLimit, gapLimit, weightLimit}
 
 -- the same edges as a list of records
@@ -13,10 +14,6 @@ unfoldable pub edgesOf : List ℕ → List ℕ → List ℕ → List ℕ → Lis
 edgesOf [] to gap weight = []
 edgesOf (f ∷ from) to gap weight =
     record { from = f; to = at to 0; gap = at gap 0; weight = at weight 0 } ∷ edgesOf from (tail to) (tail gap) (tail weight)
-
-unfoldable pub sum : List ℕ → ℕ
-sum [] = 0
-sum (x ∷ l) = x + sum l
 
 -- the lists have one length, and each end of an edge is a node below n
 pub record Shaped (from to gap : List ℕ) (n : ℕ) : Type 0 where

@@ -4,7 +4,8 @@ use mathlib.Core.List.{List, [], _∷_}
 use Prim.Native.Nat.{ℕ, _+_, _-_, _≤_, _<_}
 use lib.ListN.{length, set, drop}
 use Rattle.graph.specs.Rows.{at}
-use Rattle.relaxation.specs.Limits.{wordLimit, rowLimit}
+use Rattle.buffers.specs.Written.{wordLimit}
+use Rattle.relaxation.specs.Limits.{rowLimit}
 use Rattle.relaxation.specs.Certificate.{Held, Height}
 
 -- some rows are held and at most top

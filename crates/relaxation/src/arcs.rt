@@ -3,8 +3,8 @@
 // A link k above 0 is edge k - 1, and 0 ends a list: `head[v]` is the first link of node v, `next[a]` the link after edge a. `queue` holds
 // the marked nodes in the order in which they were marked. All of it is a hint: whatever the entries are, an edge that is found is looked
 // at before it is used, and a look at every edge follows where none is found. So nothing is required of these buffers.
-use crate::fill::clear_first;
-use crate::fill::read_entry;
+use buffers::clear_first;
+use buffers::read_entry;
 ghost use Prim.Native.Nat.{_≤_};
 
 // Edge a put in front of the list of node v.

@@ -1,13 +1,14 @@
 // Relaxation: rows rise, from 0, until every edge is kept and every used edge is tight. They are then the lowest such rows.
-use crate::fill::clear_first;
-use crate::fill::copy_first;
-use crate::fill::larger_of;
+use buffers::clear_first;
+use buffers::copy_first;
+use buffers::larger_of;
 ghost use mathlib.Core.Path.{_≡_};
 ghost use mathlib.Core.List.{[]};
 ghost use Prim.Native.Nat.{_+_, _≤_, _<_};
 ghost use lib.ListN.{length};
 ghost use Rattle.relaxation.specs.Certificate.{Relaxed};
-ghost use Rattle.relaxation.specs.Limits.{wordLimit, rowLimit};
+ghost use Rattle.buffers.specs.Written.{wordLimit};
+ghost use Rattle.relaxation.specs.Limits.{rowLimit};
 ghost use Rattle.relaxation.specs.Network.{Shaped};
 ghost use Rattle.relaxation.specs.Relax.{Holder, Sums, TailIs, MovedIs, Eases, Heights, Swept};
 

@@ -3,20 +3,13 @@ use mathlib.Core.Path.{_≡_, ap, _∙_}
 use mathlib.Core.List.{List, [], _++_}
 use Prim.Native.Nat.{ℕ, _≤_, _<_}
 use native.Mathlib.Omega.{arith}
-use lib.ListN.{length, drop, take, replicate, length-replicate}
+use lib.ListN.{length, drop, take, replicate}
 use Rattle.graph.specs.Rows.{at}
-use Rattle.relaxation.specs.Certificate.{Held, Relaxed}
+use Rattle.relaxation.specs.Certificate.{Relaxed}
 use Rattle.relaxation.specs.Low.{Lowered}
-use Rattle.relaxation.specs.Relax.{EdgesKept, Heights}
-use Rattle.relaxation.proofs.ListLaws.{zero-at}
+use Rattle.relaxation.specs.Relax.{Heights}
+use Rattle.buffers.proofs.ListLaws.{zero-at}
 use Rattle.relaxation.proofs.RelaxLaws.{heights-more, heights-copy}
-
-pub zero-long : (from flow : List ℕ) → flow ≡ replicate (length from) 0 → length flow ≡ length from
-zero-long from flow e = ap length e ∙ length-replicate {A = ℕ} (length from) 0
-
--- Rows that keep every edge are held while no edge is used.
-pub held-zero : (from to gap flow y : List ℕ) → flow ≡ replicate (length from) 0 → EdgesKept from to gap y → Held from to gap flow (at y)
-held-zero from to gap flow y e k = record { kept = k .kept; tight = λ a h u. absurd (omega (arith, ap (λ (l : List ℕ). at l a) e, zero-at (length from) a)) }
 
 pub lowered-join : (from to gap flow : List ℕ) (n : ℕ) (old y z x : List ℕ) → Relaxed from to gap flow n old y → length z ≡ length y
     → drop n z ≡ drop n y

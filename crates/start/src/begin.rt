@@ -1,7 +1,7 @@
 // The start of the solver: rows, a flow at them, and supply and demand brought nearer to one another.
 use crate::forest::grow_forest;
 use crate::rows::start_rows;
-use relaxation::fill::clear_first;
+use buffers::clear_first;
 use transport::load::load_edges;
 use transport::shift::sweep_forest;
 ghost use mathlib.Core.Path.{_≡_};
@@ -10,10 +10,12 @@ ghost use lib.ListN.{length};
 ghost use Rattle.transport.specs.Flow.{Flows};
 ghost use Rattle.start.specs.Start.{Started};
 ghost use Rattle.relaxation.specs.Limits.{weightLimit, rowLimit};
-ghost use Rattle.relaxation.specs.Network.{sum, Shaped, Network, Bounded};
+ghost use Rattle.buffers.specs.Lists.{sum};
+ghost use Rattle.relaxation.specs.Network.{Shaped, Network, Bounded};
 ghost use Rattle.relaxation.specs.Relax.{Sums};
 
-// Rows to start with, and all edges taken in at them. The nodes are left in `order`.
+// Rows to start with, and all edges taken in at them. Rows that are lent in y save the first relaxation where they are the lowest ones.
+// The nodes are left in `order`.
 pub fn start_flow(
     from: &[usize],
     to: &[usize],
@@ -38,6 +40,7 @@ pub fn start_flow(
     requires { ⌜ length (now supply) ≡ n ⌝ }
     requires { ⌜ length (now demand) ≡ n ⌝ }
     requires { ⌜ length (now lowest) ≡ n ⌝ }
+    requires { ⌜ length (now rank) ≡ n ⌝ }
     ensures { λ _. ⌜ Started (now (from .entry)) (now (to .entry)) (now (gap .entry)) (now (weight .entry)) n (now (y .entry)) (now (y .exit)) (now (flow .exit)) (now (supply .exit)) (now (demand .exit)) (now (lowest .exit)) ⌝ }
 {
     clear_first(flow, from.len());

@@ -1,8 +1,8 @@
 // A forest of tight edges, searched in breadth. It is a hint: whatever the entries are, an edge is looked at before anything is handed over it.
+use buffers::clear_first;
+use buffers::larger_of;
+use buffers::read_entry;
 use relaxation::arcs::next_link;
-use relaxation::fill::clear_first;
-use relaxation::fill::larger_of;
-use relaxation::fill::read_entry;
 ghost use Prim.Native.Nat.{_≤_, _<_};
 ghost use lib.ListN.{length};
 

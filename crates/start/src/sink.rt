@@ -1,9 +1,9 @@
 // Rows nearer to the best ones, before any flow: a node with more weight out of it than into it goes as far as its out-edges let it. What is
 // proposed here is looked at afterwards, so nothing is promised of the rows.
+use buffers::clear_first;
+use buffers::read_entry;
+use buffers::smaller_of;
 use relaxation::arcs::next_link;
-use relaxation::fill::clear_first;
-use relaxation::fill::read_entry;
-use relaxation::fill::smaller_of;
 ghost use mathlib.Core.Path.{_≡_};
 ghost use Prim.Native.Nat.{_≤_};
 ghost use lib.ListN.{length, drop};
@@ -12,7 +12,7 @@ ghost use lib.ListN.{length, drop};
 const FAR: usize = 18446744073709551615;
 
 // A number from it on stands for one below 0.
-const HALF: usize = 9223372036854775808;
+const BELOW_ZERO: usize = 9223372036854775808;
 
 // w put on entry v, round the end of a word.
 fn weigh_end(net: &mut [usize], v: usize, w: usize) {
@@ -80,7 +80,7 @@ fn sink_node(
     if more == 0 {
         return;
     }
-    if more >= HALF {
+    if more >= BELOW_ZERO {
         return;
     }
     y[v] = list_room(to, gap, y, out_next, read_entry(out_head, v));

@@ -64,11 +64,3 @@ edgeBytes = 4 * numberBytes
 -- no accepted table is longer: the edition, the count of steps and the steps, the count of edges and the edges
 abbrev pub maxTable : ℕ
 maxTable = numberBytes + numberBytes + maxSteps * stepBytes + numberBytes + maxEdges * edgeBytes
-
--- what a program takes from standard input: more than any accepted table has
-abbrev pub maxInput : ℕ
-maxInput = 8192
-
--- steps and dummies of a chart (document 01: points)
-abbrev pub maxPoints : ℕ
-maxPoints = 1024

@@ -4,7 +4,7 @@ use mathlib.Core.List.{List}
 use Prim.Native.Nat.{ℕ}
 use native.Mathlib.Omega.{arith}
 use Rattle.relaxation.specs.Certificate.{Balance}
-use Rattle.relaxation.specs.Network.{sum}
+use Rattle.buffers.specs.Lists.{sum}
 use Rattle.transport.specs.Flow.{Owed}
 use Rattle.transport.proofs.SumLaws.{flux-one, spread-one, spread-empty}
 

@@ -8,9 +8,11 @@ use lib.ListN.{length, set, take, replicate, length-set, length-replicate}
 use lib.Seq.{getD-set-other, take-all}
 use Rattle.graph.specs.Rows.{at}
 use Rattle.relaxation.specs.Certificate.{flux, Held}
-use Rattle.relaxation.specs.Limits.{wordLimit, weightLimit}
-use Rattle.relaxation.specs.Network.{sum, Shaped}
-use Rattle.relaxation.proofs.ListLaws.{set-cases, zero-at}
+use Rattle.buffers.specs.Written.{wordLimit}
+use Rattle.relaxation.specs.Limits.{weightLimit}
+use Rattle.buffers.specs.Lists.{sum}
+use Rattle.relaxation.specs.Network.{Shaped}
+use Rattle.buffers.proofs.ListLaws.{set-cases, zero-at}
 use Rattle.transport.specs.Flow.{Flows}
 use Rattle.transport.specs.Load.{Loads}
 use Rattle.transport.proofs.SumLaws.{sum-add, sum-ge, sum-take, sum-take-le, sum-zero, flux-add, flux-take, flux-zero, spread-add}
@@ -35,7 +37,16 @@ module _ (from to gap weight : List ℕ) (n : ℕ) (y : List ℕ) (shape : Shape
           supply-long = length-replicate {A = ℕ} n 0;
           demand-long = length-replicate {A = ℕ} n 0;
           held = held;
-          owed = record { test = λ z. omega (arith, ap (λ (l : List ℕ). flux l to z) ef, ap (λ (l : List ℕ). flux l from z) ef, flux-zero (length from) to z, flux-zero (length from) from z) };
+          owed = record {
+            test = λ z. omega (
+              arith,
+              ap (λ (l : List ℕ). flux l to z) ef,
+              ap (λ (l : List ℕ). flux l from z) ef,
+              flux-zero
+                  (length from) to z,
+              flux-zero (length from) from z,
+            );
+          };
           small = λ i. omega (arith, ap (λ (l : List ℕ). at l i) ef, zero-at (length from) i, sum-zero n);
           few = omega (arith, sum-zero n);
         };
@@ -47,7 +58,15 @@ module _ (from to gap weight : List ℕ) (n : ℕ) (y : List ℕ) (shape : Shape
   module _ (flow supply demand : List ℕ) (e : ℕ) (l : Loading from to gap weight n y flow supply demand e) where
     pub load-fits : (v : ℕ) → (e < length from) → (at supply v + at weight e < wordLimit) × (at demand v + at weight e < wordLimit)
     load-fits v h =
-        omega (arith, sum-ge supply v, sum-ge demand v, l .flows .few, owed-equal from to flow (take e weight) supply demand (l .flows .owed), sum-take weight e (omega arith), sum-take-le weight (suc e))
+        omega (
+          arith,
+          sum-ge supply v,
+          sum-ge demand v,
+          l .flows .few,
+          owed-equal from to flow (take e weight) supply demand (l .flows .owed),
+          sum-take weight e (omega arith),
+          sum-take-le weight (suc e),
+        )
 
     -- A tight edge carries its weight, so both sides of the balance gain it alike; any other gives it to its ends to send and to get.
     pub loading-turn : e < length from → (flow′ supply′ demand′ : List ℕ)
@@ -71,7 +90,20 @@ module _ (from to gap weight : List ℕ) (n : ℕ) (y : List ℕ) (shape : Shape
               tight = λ a b. set-cases (λ (x : ℕ). 0 < x → at y (at to a) ≤ at y (at from a) + at gap a) flow e w a in-flow
                   (λ q u. subst (λ (j : ℕ). at y (at to j) ≤ at y (at from j) + at gap j) q (omega arith)) (λ ne. l .flows .held .tight a b);
             };
-            owed = record { test = λ z. omega (arith, l .flows .owed .test z, ap (λ (k : List ℕ). flux k to z) same, ap (λ (k : List ℕ). flux k from z) same, flux-add flow to z e w in-flow, flux-add flow from z e w in-flow, flux-take weight to z e (omega arith), flux-take weight from z e (omega arith)) };
+            owed = record {
+              test = λ z. omega (
+                arith,
+                l .flows .owed .test z,
+                ap (λ (k : List ℕ). flux k to z) same,
+                ap (λ
+                    (k : List ℕ). flux k from z) same,
+                flux-add flow to z e w in-flow,
+                flux-add flow from z e w in-flow,
+                flux-take weight to z e
+                    (omega arith),
+                flux-take weight from z e (omega arith),
+              );
+            };
             small = λ i. omega (arith, grown i, sum-take-le weight (suc e));
             few = omega (arith, l .flows .few, sum-take weight e (omega arith));
           };
@@ -91,7 +123,16 @@ module _ (from to gap weight : List ℕ) (n : ℕ) (y : List ℕ) (shape : Shape
             supply-long = length-set supply f _ ∙ l .flows .supply-long;
             demand-long = length-set demand t _ ∙ l .flows .demand-long;
             held = l .flows .held;
-            owed = record { test = λ z. omega (arith, l .flows .owed .test z, spread-add supply z f w in-supply, spread-add demand z t w in-demand, flux-take weight to z e (omega arith), flux-take weight from z e (omega arith)) };
+            owed = record {
+              test = λ z. omega (
+                arith,
+                l .flows .owed .test z,
+                spread-add supply z f w in-supply,
+                spread-add demand z t w in-demand,
+                flux-take weight to z e (omega arith),
+                flux-take weight from z e (omega arith),
+              );
+            };
             small = λ i. omega (arith, l .bound i, sum-add supply f w in-supply, sum-take weight e (omega arith), sum-take-le weight (suc e));
             few = omega (arith, l .flows .few, sum-add supply f w in-supply, sum-take weight e (omega arith));
           };

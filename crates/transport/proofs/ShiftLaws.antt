@@ -7,10 +7,12 @@ use lib.ListN.{length, set, length-set}
 use Rattle.graph.specs.Rows.{at}
 use Rattle.relaxation.specs.Certificate.{Held}
 use Rattle.transport.specs.Flow.{Flows, spread}
-use Rattle.relaxation.specs.Limits.{wordLimit, weightLimit}
-use Rattle.relaxation.specs.Network.{sum, Shaped}
+use Rattle.buffers.specs.Written.{wordLimit}
+use Rattle.relaxation.specs.Limits.{weightLimit}
+use Rattle.buffers.specs.Lists.{sum}
+use Rattle.relaxation.specs.Network.{Shaped}
 use Rattle.transport.specs.Shift.{shifted, Cancels, CarriesOn, CarriesBack}
-use Rattle.relaxation.proofs.ListLaws.{set-cases}
+use Rattle.buffers.proofs.ListLaws.{set-cases}
 use Rattle.transport.proofs.SumLaws.{sum-add, sum-sub, sum-ge, flux-add, flux-sub, spread-add, spread-sub}
 use Rattle.transport.proofs.FlowLaws.{owed-equal}
 
@@ -113,7 +115,15 @@ module _ (from to gap g : List ℕ) (n : ℕ) (y : List ℕ) (shape : Shaped fro
       supply-long = shift-long supply (at from a) (at to a) d from-supply to-supply le ∙ r .supply-long;
       demand-long = r .demand-long;
       held = held-on from to gap flow (at y) a in-flow (r .held) (at flow a + d) (omega arith);
-      owed = record { test = λ z. omega (arith, r .owed .test z, flux-add flow to z a d in-flow, flux-add flow from z a d in-flow, shift-spread supply (at from a) (at to a) d from-supply to-supply le z) };
+      owed = record {
+        test = λ z. omega (
+          arith,
+          r .owed .test z,
+          flux-add flow to z a d in-flow,
+          flux-add flow from z a d in-flow,
+          shift-spread supply (at from a) (at to a) d from-supply to-supply le z,
+        );
+      };
       small = λ i. omega (arith, small-on d top i, shift-sum supply (at from a) (at to a) d from-supply to-supply le);
       few = omega (arith, r .few, shift-sum supply (at from a) (at to a) d from-supply to-supply le);
     })
@@ -126,7 +136,15 @@ module _ (from to gap g : List ℕ) (n : ℕ) (y : List ℕ) (shape : Shaped fro
       supply-long = shift-long supply (at to a) (at from a) d to-supply from-supply le ∙ r .supply-long;
       demand-long = r .demand-long;
       held = held-back from to gap flow (at y) a in-flow (r .held) (at flow a - d) h (omega arith);
-      owed = record { test = λ z. omega (arith, r .owed .test z, flux-sub flow to z a d in-flow lf, flux-sub flow from z a d in-flow lf, shift-spread supply (at to a) (at from a) d to-supply from-supply le z) };
+      owed = record {
+        test = λ z. omega (
+          arith,
+          r .owed .test z,
+          flux-sub flow to z a d in-flow lf,
+          flux-sub flow from z a d in-flow lf,
+          shift-spread supply (at to a) (at from a) d to-supply from-supply le z,
+        );
+      };
       small = λ i. omega (arith, small-back d i, shift-sum supply (at to a) (at from a) d to-supply from-supply le);
       few = omega (arith, r .few, shift-sum supply (at to a) (at from a) d to-supply from-supply le);
     })
@@ -140,7 +158,15 @@ module _ (from to gap g : List ℕ) (n : ℕ) (y : List ℕ) (shape : Shaped fro
       supply-long = r .supply-long;
       demand-long = shift-long demand (at to a) (at from a) d to-demand from-demand le ∙ r .demand-long;
       held = held-on from to gap flow (at y) a in-flow (r .held) (at flow a + d) (omega arith);
-      owed = record { test = λ z. omega (arith, r .owed .test z, flux-add flow to z a d in-flow, flux-add flow from z a d in-flow, shift-spread demand (at to a) (at from a) d to-demand from-demand le z) };
+      owed = record {
+        test = λ z. omega (
+          arith,
+          r .owed .test z,
+          flux-add flow to z a d in-flow,
+          flux-add flow from z a d in-flow,
+          shift-spread demand (at to a) (at from a) d to-demand from-demand le z,
+        );
+      };
       small = small-on d top;
       few = r .few;
     })
@@ -153,7 +179,15 @@ module _ (from to gap g : List ℕ) (n : ℕ) (y : List ℕ) (shape : Shaped fro
       supply-long = r .supply-long;
       demand-long = shift-long demand (at from a) (at to a) d from-demand to-demand le ∙ r .demand-long;
       held = held-back from to gap flow (at y) a in-flow (r .held) (at flow a - d) h (omega arith);
-      owed = record { test = λ z. omega (arith, r .owed .test z, flux-sub flow to z a d in-flow lf, flux-sub flow from z a d in-flow lf, shift-spread demand (at from a) (at to a) d from-demand to-demand le z) };
+      owed = record {
+        test = λ z. omega (
+          arith,
+          r .owed .test z,
+          flux-sub flow to z a d in-flow lf,
+          flux-sub flow from z a d in-flow lf,
+          shift-spread demand (at from a) (at to a) d from-demand to-demand le z,
+        );
+      };
       small = small-back d;
       few = r .few;
     })

@@ -7,9 +7,9 @@ use native.Mathlib.Omega.{arith}
 use lib.ListN.{length, set, take, replicate}
 use Rattle.graph.specs.Rows.{at}
 use Rattle.relaxation.specs.Certificate.{flux}
-use Rattle.relaxation.specs.Network.{sum}
+use Rattle.buffers.specs.Lists.{sum}
 use Rattle.transport.specs.Flow.{spread}
-use Rattle.relaxation.proofs.ListLaws.{at-tail}
+use Rattle.buffers.proofs.ListLaws.{at-tail}
 
 pub sum-add : (l : List ℕ) (i d : ℕ) → i < length l → sum (set l i (at l i + d)) ≡ sum l + d
 unfolding sum

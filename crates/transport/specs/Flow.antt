@@ -4,8 +4,8 @@ use mathlib.Core.List.{List, [], _∷_}
 use Prim.Native.Nat.{ℕ, suc, _+_, _*_, _≤_, _<_}
 use lib.ListN.{length}
 use Rattle.graph.specs.Rows.{at}
-use Rattle.relaxation.specs.Limits.{wordLimit}
-use Rattle.relaxation.specs.Network.{sum}
+use Rattle.buffers.specs.Written.{wordLimit}
+use Rattle.buffers.specs.Lists.{sum}
 use Rattle.relaxation.specs.Certificate.{flux, Held}
 
 -- Σ l(v)·z(v), over the nodes

@@ -1,5 +1,5 @@
 // Taking the edges in: a tight one carries its weight; the ends of any other have it to send and to get.
-use relaxation::fill::clear_first;
+use buffers::clear_first;
 use relaxation::relax::relax_edges;
 ghost use mathlib.Core.Path.{_≡_};
 ghost use Prim.Native.Nat.{_+_, _≤_, _<_};
@@ -8,8 +8,10 @@ ghost use Rattle.graph.specs.Rows.{at};
 ghost use Rattle.relaxation.specs.Certificate.{Held};
 ghost use Rattle.transport.specs.Flow.{Flows};
 ghost use Rattle.transport.specs.Load.{Loads};
-ghost use Rattle.relaxation.specs.Limits.{wordLimit, weightLimit};
-ghost use Rattle.relaxation.specs.Network.{sum, Shaped};
+ghost use Rattle.buffers.specs.Written.{wordLimit};
+ghost use Rattle.relaxation.specs.Limits.{weightLimit};
+ghost use Rattle.buffers.specs.Lists.{sum};
+ghost use Rattle.relaxation.specs.Network.{Shaped};
 ghost use Rattle.relaxation.specs.Relax.{Sums};
 
 // Edge e taken in.

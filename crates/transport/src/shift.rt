@@ -1,13 +1,15 @@
 // Handing supply and demand over one edge: no matter which edge, the flow stays balanced with the weights but for supply and demand.
-use relaxation::fill::smaller_of;
-use relaxation::fill::take_at;
+use buffers::smaller_of;
+use buffers::take_at;
 ghost use mathlib.Core.Path.{_≡_};
 ghost use Prim.Native.Nat.{_+_, _≤_, _<_};
 ghost use lib.ListN.{length};
 ghost use Rattle.graph.specs.Rows.{at};
 ghost use Rattle.transport.specs.Flow.{Flows};
-ghost use Rattle.relaxation.specs.Limits.{wordLimit, weightLimit};
-ghost use Rattle.relaxation.specs.Network.{sum, Shaped};
+ghost use Rattle.buffers.specs.Written.{wordLimit};
+ghost use Rattle.relaxation.specs.Limits.{weightLimit};
+ghost use Rattle.buffers.specs.Lists.{sum};
+ghost use Rattle.relaxation.specs.Network.{Shaped};
 ghost use Rattle.relaxation.specs.Relax.{Sums};
 ghost use Rattle.transport.specs.Shift.{shifted, Cancels, CarriesOn, CarriesBack};
 

@@ -17,7 +17,7 @@ start-flow-requires c κs =
     .before .before .before .before .before .before .before .before .before .before .before .before .before .before .before .before
     .before .before .before .before .before .before .before .before .before in
     let b = s .pre .1 .1 in
-    (s .pre .0, (s .pre .1 .0, (b .lengths .y-long, (b .flow-long, (b .supply-long, (b .demand-long, b .lowest-long))))))
+    (s .pre .0, (s .pre .1 .0, (b .lengths .y-long, (b .flow-long, (b .supply-long, (b .demand-long, (b .lowest-long, b .lengths .rank-long)))))))
 
 ease-flow-requires : tie.Need-ease-flow-requires
 ease-flow-requires c κs =

@@ -5,7 +5,7 @@ use Prim.Native.Nat.{_-_, _≤_, _<_}
 use lib.ListN.{length}
 use Rattle.augment.proofs.TreeLaws as laws
 use Rattle.augment.proofs.TreeLaws.{Least}
-use Rattle.relaxation.specs.Limits.{wordLimit}
+use Rattle.buffers.specs.Written.{wordLimit}
 use Rattle.augment.proofs.exit.least_slack.Statement.{statement}
 use Rattle.augment.proofs.exit.least_slack.Tie as tie
 

@@ -29,7 +29,7 @@ enum-told : tie.Need-enum-told
 enum-told c = search needs
 
 solve-rows-requires : tie.Need-solve-rows-requires
-solve-rows-requires c κs = let s = c .before .before .before .before .before .before .before .before .before .before .before in (fair-network _ _ _ _ _ (s .pre .0) (s .pre .1), (fair-bounded _ _ _ _ _ (s .pre .0) (s .pre .1) _ (c .before .before .before .before .find-loop .ensures) (c .enum-told .given .1), (s .pre .0 .few-steps, fair-few _ _ _ _ _ (s .pre .0) (s .pre .1))))
+solve-rows-requires c κs = let s = c .before .before .before .before .before .before .before .before .before .before .before in (fair-network _ _ _ _ _ (s .pre .0) (s .pre .1), (fair-bounded _ _ _ _ _ (s .pre .0) (s .pre .1) _ (c .before .before .before .before .find-loop .ensures) (c .enum-told .given .1), ((s .pre .0 .few-steps, fair-few _ _ _ _ _ (s .pre .0) (s .pre .1)), c .before .before .before .y2 .given)))
 
 array-share-prefix-rows : tie.Need-array-share-prefix-rows
 array-share-prefix-rows c = search needs

@@ -5,7 +5,7 @@ use Prim.Native.Nat.{_≤_}
 use native.Mathlib.Omega.{arith}
 use denote.Ref.{now}
 use lib.ListN.{length, take, replicate, length-map}
-use Rattle.table.specs.Limits.{maxPoints}
+use Rattle.points.specs.Limits.{maxPoints}
 use Rattle.points.specs.Points.{Dummy, dummies}
 use Rattle.ordering.specs.Charting.{Storable}
 use Rattle.listing.specs.Printing.{ownersOf, dummyRows, Layable}

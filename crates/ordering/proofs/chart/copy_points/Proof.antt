@@ -6,7 +6,7 @@ use native.Mathlib.Omega.{arith}
 use lib.ListN.{length, take, drop, set, replicate, length-set, length-replicate}
 use denote.Ref.{now}
 use Rattle.graph.specs.Rows.{at}
-use Rattle.table.specs.Limits.{maxPoints}
+use Rattle.points.specs.Limits.{maxPoints}
 use Rattle.buffers.proofs.PaddedLaws.{padded-paste}
 use Rattle.buffers.proofs.CopyLaws.{paste-more}
 use Rattle.ordering.proofs.chart.copy_points.Statement.{statement}

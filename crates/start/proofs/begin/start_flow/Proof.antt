@@ -2,7 +2,7 @@ use denote.Ref.{now}
 use lib.ListN.{length}
 use mathlib.Core.Path.{sym, _∙_}
 use Rattle.relaxation.proofs.IndexLaws.{room, wide}
-use Rattle.relaxation.proofs.ListLaws.{cleared}
+use Rattle.buffers.proofs.ListLaws.{cleared}
 use Rattle.relaxation.proofs.LowLaws as laws
 use borrow.Author.Needs.{needs}
 use Rattle.start.proofs.begin.start_flow.Statement.{statement}
@@ -41,7 +41,7 @@ start-rows-requires c κs =
           (
             laws.holder-start (now (a .from)) (now (a .to)) (now (a .gap)) (after-clear-first .clear-first .last .0) (a .n) ef
                 (s .pre .1 .0),
-            (ef, s .pre .1 .1 .1 .1 .1 .1),
+            (ef, (s .pre .1 .1 .1 .1 .1 .1 .0, s .pre .1 .1 .1 .1 .1 .1 .1)),
           ),
         ),
       ),

@@ -6,7 +6,7 @@ use Rattle.start.proofs.sink.sink_node.Statement.{statement}
 use Rattle.start.proofs.sink.sink_node.Tie as tie
 use Rattle.start.proofs.sink.sink_node.Reads as reads
 use Rattle.start.proofs.sink.sink_node.Lts as lts
-use Rattle.relaxation.proofs.fill.read_entry.Reads as read-entry-reads
+use Rattle.buffers.proofs.read_entry.Reads as read-entry-reads
 use Rattle.start.proofs.sink.list_room.Reads as list-room-reads
 
 -- src/sink.rt:77:9

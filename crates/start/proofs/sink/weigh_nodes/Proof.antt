@@ -6,8 +6,8 @@ use Rattle.start.proofs.sink.weigh_nodes.Statement.{statement}
 use Rattle.start.proofs.sink.weigh_nodes.Tie as tie
 use Rattle.start.proofs.sink.weigh_nodes.Reads as reads
 use Rattle.start.proofs.sink.weigh_nodes.Lts as lts
-use Rattle.relaxation.proofs.fill.clear_first.Reads as clear-first-reads
-use Rattle.relaxation.proofs.fill.read_entry.Reads as read-entry-reads
+use Rattle.buffers.proofs.clear_first.Reads as clear-first-reads
+use Rattle.buffers.proofs.read_entry.Reads as read-entry-reads
 use Rattle.start.proofs.sink.weigh_end.Reads as weigh-end-reads
 use Rattle.std.proofs.num.wrapping_sub_usize.Reads as wrapping-sub-usize-reads
 
