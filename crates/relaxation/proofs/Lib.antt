@@ -7,3 +7,4 @@ pub mod BestLaws
 pub mod BalanceLaws
 pub mod LowLaws
 pub mod LowestLaws
+pub mod ArcLaws
