@@ -23,7 +23,7 @@ use Rattle.table.specs.Table.{Contents, contentsOf, read}
 use Rattle.table.specs.Calls.{tableRead, readCall}
 use Rattle.buffers.specs.Padded.{padded}
 use Rattle.table.proofs.FairLaws.{read-fair}
-use Rattle.outcome.proofs.ToldLaws.{verdict-accepted, verdict-refused}
+use Rattle.outcome.proofs.ToldLaws.{number-some, verdict-accepted, verdict-refused}
 use Rattle.buffers.proofs.PaddedLaws.{padded-long}
 use Rattle.table.proofs.AnswerLaws.{Told}
 use Rattle.layering.specs.declared.types.RowsAnswer.{RowsAnswer}
@@ -94,6 +94,9 @@ module _ (t : TableRead) (s : List ℕ) (h : Told t (read s)) where
   unfolding padded
   table-same = ap (λ k. take k (t .table .edges)) table-m ∙ ap (take (length edges-of)) table-list ∙ take-append-seam edges-of _
 
+  pub table-count : t .table .n ≡ length (contentsOf (read s) .steps)
+  table-count = table-n ∙ sym (ap (λ o. length (contentsOf o .steps)) (h .outcome))
+
   pub table-few : t .table .m ≤ maxEdges
   table-few = omega (arith, table-m, read-fair s (h .outcome) .few-edges)
 
@@ -126,7 +129,14 @@ pub table-refused : (s : List ℕ) {f : Refusal} → read s ≡ refused f → ro
 unfolding rowsOfTable
 table-refused s e = rw e
 
--- what the call promises
+-- what the call promises of a table that is refused
+pub refused-call : (s : List ℕ) {f : Refusal} (old : List ℕ) → read s ≡ refused f
+    → (rowsNumbers (RowsAnswer.Refused f) ≡ rowsCall s old .numbers) × ((old ≡ rowsCall s old .rows) × TableBest s (rowsNumbers (RowsAnswer.Refused f)) old)
+unfolding rowsCall
+refused-call s {f} old e =
+    (rw (table-refused s e), (rw (table-refused s e), λ zero. absurd (omega (arith, number-some f))))
+
+-- and of any other
 pub table-call : (s : List ℕ) (f : RowsFound) (old new : List ℕ) (r : RowsAnswer) (n : ℕ) → n ≡ length (contentsOf (read s) .steps)
     → TablePlaced s f → RowsHandedOut (heldRows n f) old new r
     → (rowsNumbers r ≡ rowsCall s old .numbers) × ((new ≡ rowsCall s old .rows) × TableBest s (rowsNumbers r) new)

@@ -36,9 +36,18 @@ pub fn find_rows(bytes: &[u8], rows: &mut [Row]) -> RowsAnswer
     ensures { λ _. ⌜ now (rows .exit) ≡ rowsCall (now (bytes .entry)) (now (rows .entry)) .rows ⌝ }
     ensures { λ r. ⌜ TableBest (now (bytes .entry)) (rowsNumbers r) (now (rows .exit)) ⌝ }
 {
-    let placed = place_table(bytes);
-    let found = placed.found;
-    hand_out(found, placed.table.n, rows)
+    let t = read_table(bytes);
+    let verdict = t.verdict;
+    match verdict {
+        Verdict::Refused(f) => RowsAnswer::Refused(f),
+        Verdict::Accepted => {
+            let table = t.table;
+            let edges = table.edges;
+            let flat = flatten_edges(edges, table.m);
+            let found = place_edges(flat, table.m, table.n);
+            hand_out(found, table.n, rows)
+        }
+    }
 }
 
 // The same for n steps and edges that are lent as a list of records. Refuses too many steps (4), too many edges (8), each edge in turn

@@ -12,6 +12,9 @@ ghost use Rattle.relaxation.specs.Limits.{rowLimit};
 ghost use Rattle.relaxation.specs.Network.{Network, Bounded, Buffers};
 
 // The best rows of the n nodes, in the first n entries of y, and a flow that certifies them. Some feasible rows must exist.
+//
+// What y has at entry is a hint, and its entries behind the nodes stay. Which of the flows that certify the rows comes is free, and so is
+// what the other buffers, from `rank` on, hold at the end: they are scratch.
 pub fn solve(
     from: &[usize],
     to: &[usize],
