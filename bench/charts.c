@@ -3,6 +3,7 @@
 //
 // Timed: of ours the whole call, from the table's bytes to rows and order. Of dot gvLayout alone, as graphviz.c sets it up.
 // In turn: every program once on every table, round after round, the median kept.
+// Again: a second call right after the first on the same table, of ours and of dot's ranks and order alone.
 #include "chart_call.h"
 #include "graphviz.h"
 #include "rows_call.h"
@@ -20,6 +21,7 @@ typedef struct {
   ChartAnswer answer;
   long dot_crossings, dot_total;
   double ours[ROUNDS], dot[SETTINGS][ROUNDS], apart[ROUNDS];
+  double ours_again[ROUNDS], dot_again[ROUNDS];
 } Case;
 
 // The shapes of one size: those accepted as they are, and those cut until they are.
@@ -60,20 +62,31 @@ static double run_ours(Case *c) {
   check_ours(c);
   return end - start;
 }
-static void run_dot(Case *c, int setting, int round) {
+static void run_ours_twice(Case *c, int round) {
+  c->ours[round] = run_ours(c);
+  c->ours_again[round] = run_ours(c);
+}
+static DotTimes run_dot(Case *c, int setting) {
   static Drawing d;
   DotTimes times;
   int read = setting == ORDER_ONLY;
   if (!draw_by_dot(&c->inst, setting, &times, read ? &d : NULL)) stop(c, "dot failed");
   if (read) check_dot(c, &d);
-  if (setting == NO_CURVES) c->apart[round] = times.apart_us;
-  c->dot[setting][round] = times.layout_us;
+  return times;
 }
-// One table once by each program; which goes first changes from round to round.
+static void run_dots(Case *c, int round) {
+  for (int s = 0; s < SETTINGS; s++) {
+    DotTimes times = run_dot(c, s);
+    c->dot[s][round] = times.layout_us;
+    if (s == NO_CURVES) c->apart[round] = times.apart_us;
+    if (s == ORDER_ONLY) c->dot_again[round] = run_dot(c, s).layout_us;
+  }
+}
+// One table by each program; which goes first changes from round to round.
 static void run_case(Case *c, int round) {
-  if (round % 2 == 0) c->ours[round] = run_ours(c);
-  for (int s = 0; s < SETTINGS; s++) run_dot(c, s, round);
-  if (round % 2) c->ours[round] = run_ours(c);
+  if (round % 2 == 0) run_ours_twice(c, round);
+  run_dots(c, round);
+  if (round % 2) run_ours_twice(c, round);
 }
 static void run_all(Case *cases, size_t count) {
   for (int round = 0; round < ROUNDS; round++)
@@ -163,14 +176,16 @@ static size_t read_stored(Case *cases, int files, char **paths) {
   return count;
 }
 
-// Geometric means at a size: points, time of ours, and of dot's ranks and order alone.
-typedef struct { double points, ours, dot; } SizeMeans;
+// Geometric means at a size: points, time of ours, and of dot's ranks and order alone, each in turn and again.
+typedef struct { double points, ours, dot, ours_again, dot_again; } SizeMeans;
 
 static void add_logs(SizeMeans *m, const Case *cases, size_t count) {
   for (size_t i = 0; i < count; i++) {
     m->points += log(cases[i].answer.points);
     m->ours += log(median(cases[i].ours));
     m->dot += log(median(cases[i].dot[ORDER_ONLY]));
+    m->ours_again += log(median(cases[i].ours_again));
+    m->dot_again += log(median(cases[i].dot_again));
   }
 }
 static SizeMeans means_of(const Size *s) {
@@ -178,14 +193,15 @@ static SizeMeans means_of(const Size *s) {
   add_logs(&m, s->whole, s->count);
   add_logs(&m, s->near, s->near_count);
   size_t all = s->count + s->near_count;
-  return (SizeMeans){ exp(m.points / all), exp(m.ours / all), exp(m.dot / all) };
+  return (SizeMeans){ exp(m.points / all), exp(m.ours / all), exp(m.dot / all), exp(m.ours_again / all), exp(m.dot_again / all) };
 }
 static void print_growth(const Size *sizes) {
   SizeMeans before = { 0 };
   printf("\nGrowth with size: geometric means over the shapes (us); dot finds ranks and order alone\n");
   for (int k = 0; k < SIZES; k++) {
     SizeMeans m = means_of(&sizes[k]);
-    printf("size %zu/%zu points %.0f ours %.1f dot %.0f", sizes[k].nodes, sizes[k].nodes * EDGES_A_NODE, m.points, m.ours, m.dot);
+    printf("size %zu/%zu points %.0f ours %.1f dot %.0f ratio %.1f, again %.1f %.0f %.1f", sizes[k].nodes, sizes[k].nodes * EDGES_A_NODE,
+           m.points, m.ours, m.dot, m.dot / m.ours, m.ours_again, m.dot_again, m.dot_again / m.ours_again);
     if (k > 0) printf("; twice the size: points x %.1f, ours x %.1f, dot x %.1f", m.points / before.points, m.ours / before.ours, m.dot / before.dot);
     printf("\n");
     before = m;

@@ -1,8 +1,8 @@
 -- What the marks of one node show: whatever is marked is reached, and where no edge is open all that is reached is marked.
-use mathlib.Core.Path.{_≡_, refl, subst}
+use mathlib.Core.Path.{_≡_, subst}
 use mathlib.Core.Logic.{_⊎_, inl, inr, ⊎-elim}
 use mathlib.Core.List.{List, []}
-use Prim.Native.Nat.{ℕ, zero, suc, _<_, zero-le}
+use Prim.Native.Nat.{ℕ, _<_, zero-le}
 use native.Mathlib.Omega.{arith}
 use lib.ListN.{length, set}
 use Rattle.graph.specs.Rows.{at}
@@ -10,16 +10,13 @@ use Rattle.relaxation.specs.Network.{edgesOf}
 use Rattle.acyclic.specs.Loops.{Walk}
 use Rattle.acyclic.specs.Scan.{Nowhere, Open, Blank}
 use Rattle.acyclic.proofs.WalkLaws.{walk-one, walk-more, walk-along}
+use Rattle.buffers.proofs.IndexLaws.{positive}
 use Rattle.buffers.proofs.ListLaws.{set-cases}
 
 -- each marked node is reached from s, and s is not marked
 pub record Sound (from to : List ℕ) (s : ℕ) (seen : List ℕ) : Type 0 where
   pub sound : (v : ℕ) → 0 < at seen v → Walk (edgesOf from to [] []) s v
   pub apart : at seen s ≡ 0
-
-positive : (x : ℕ) → (x ≡ 0 → ⊥) → 0 < x
-positive zero h = absurd (h refl)
-positive (suc x) h = omega arith
 
 module _ (from to : List ℕ) (s : ℕ) (seen : List ℕ) where
   pub sound-blank : Blank seen → Sound from to s seen

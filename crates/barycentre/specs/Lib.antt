@@ -2,6 +2,7 @@
 pub mod PointEnds
 pub mod Means
 pub mod Reordered
+pub mod Rising
 pub mod Flat
 pub mod Bounds
 pub mod Steps

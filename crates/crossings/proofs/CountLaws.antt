@@ -23,7 +23,7 @@ use Rattle.crossings.proofs.CrossingsLaws.{pairs-fit}
 use Rattle.crossings.proofs.PlacingLaws.{length-placedBy, placed-at}
 use Rattle.crossings.proofs.RowSumLaws.{pairs-by-row}
 use Rattle.crossings.proofs.SameLaws.{howMany}
-use Rattle.crossings.proofs.SweepLaws.{placed-length, one-crossings, groups-length}
+use Rattle.crossings.proofs.SweepLaws.{placed-length, one-crossings, narrow-crossings, groups-length}
 use Rattle.crossings.proofs.RowPointsLaws.{row-same, row-pairs}
 
 -- ---- how many segments
@@ -165,6 +165,10 @@ module _ {order first head next lower pos counts blocks : List ℕ} (u : Countab
       row-counted h
       (one-crossings (at first (r + 2) - at first (r + 1)) (row-low (u .lists) r h)
       (omega (arith, groups-length lower pos next head (rowAt first order r), row-long (u .lists) r (omega arith))))
+
+  -- a row above a single point
+  pub row-narrow : at first (r + 2) - at first (r + 1) < 2 → RowCrossings order first head next lower pos r 0
+  row-narrow few = row-counted h (narrow-crossings (at first (r + 2) - at first (r + 1)) (row-low (u .lists) r h) few)
 
 -- counts and blocks of the same lengths serve the next row
 pub countable-again : {order first head next lower pos counts blocks counts′ blocks′ : List ℕ} → Countable order first head next lower pos counts blocks

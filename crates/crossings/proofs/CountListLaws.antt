@@ -67,23 +67,17 @@ all-most counts (l ∷ ls) = omega (arith, right-most counts l, all-most counts 
 
 pub record CountingList (counts lower pos next : List ℕ) (h sum x : ℕ) : Type 0 where
   pub within : x ≤ length next
-  pub low : Below (length counts) (lows lower pos next x)
   pub so-far : sum + rightOfAll counts (lows lower pos next x) ≡ rightOfAll counts (lows lower pos next h)
 
-pub list-start : (counts lower pos : List ℕ) {next : List ℕ} {h : ℕ} → h ≤ length next
-    → Below (length counts) (lows lower pos next h) → CountingList counts lower pos next h 0 h
-list-start counts lower pos l low = record { within = l; low = low; so-far = omega arith }
+pub list-start : (counts lower pos : List ℕ) {next : List ℕ} {h : ℕ} → h ≤ length next → CountingList counts lower pos next h 0 h
+list-start counts lower pos l = record { within = l; so-far = omega arith }
 
 module _ {counts lower pos next : List ℕ} {h sum x : ℕ} (e : EndsPlaced lower pos next) (c : CountingList counts lower pos next h sum x) where
   pub list-more : 0 < x → {r : ℕ} → r ≡ rightOf counts (lowOf lower pos (x - 1)) → CountingList counts lower pos next h (sum + r) (at next (x - 1))
   list-more a q = record {
     within = omega (arith, c .within, e .falls .falls (x - 1) (omega (arith, c .within)));
-    low = low-rest e a (c .within) (c .low);
     so-far = omega (arith, q, c .so-far, all-more counts (lows-more e x a (c .within)));
   }
-
-  pub list-low : 0 < x → lowOf lower pos (x - 1) < length counts
-  list-low a = low-first e a (c .within) (c .low)
 
   pub list-end : x ≤ 0 → sum ≡ rightOfAll counts (lows lower pos next h)
   list-end a =

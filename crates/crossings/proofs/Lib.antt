@@ -4,6 +4,7 @@ pub mod RowSumLaws
 pub mod SameLaws
 pub mod InsertionLaws
 pub mod TallyLaws
+pub mod BehindLaws
 pub mod CountListLaws
 pub mod RaiseLaws
 pub mod SweepLaws

@@ -2,7 +2,7 @@
 use mathlib.Core.Path.{_≡_, refl, sym, ap, _∙_}
 use mathlib.Core.Bool.{Bool, cond, _&&_}
 use mathlib.Core.List.{List, [], _∷_, _++_, map}
-use Prim.Native.Nat.{ℕ, zero, suc, _+_, _*_, _-_, _≤_, _<_}
+use Prim.Native.Nat.{ℕ, zero, suc, _+_, _*_, _≤_, _<_}
 use native.Mathlib.Numerals.{add-one}
 use native.Mathlib.Omega.{arith}
 use borrow.Author.Tests.{lt-ltb, le-ltb}
@@ -12,12 +12,13 @@ use lib.Seq.{drop-cons}
 use Rattle.graph.specs.Rows.{at}
 use Rattle.crossings.specs.Crossings.{PlacedSegment, crossingPairs}
 use Rattle.buffers.specs.Lists.{Below}
-use Rattle.crossings.specs.Tally.{allCounted, rightOf, rightOfAll, raised, blockSize, Blocked}
+use Rattle.crossings.specs.Tally.{allCounted, rightOf, rightOfAll, raised, blockSize, Blocked, NoneBehind}
 use Rattle.crossings.specs.Between.{lows, segmentTo, placedFrom, groups, groupedCount, AllBelow, none-below, one-below, CrossingsOf}
 use Rattle.crossings.specs.Placing.{segmentLimit}
 use Rattle.crossings.proofs.CrossingsLaws.{pairs-fit}
 use Rattle.crossings.proofs.InsertionLaws.{leftCrossings, inserted, After, none-after, one-after, Rightward, none-rightward, one-rightward, inserted-pairs}
-use Rattle.crossings.proofs.TallyLaws.{right-raised, right-zero, range-zero, blocked-zero}
+use Rattle.crossings.proofs.TallyLaws.{right-raised, right-narrow, right-zero, range-zero, blocked-zero}
+use Rattle.crossings.proofs.BehindLaws.{behind-zero}
 use Rattle.crossings.proofs.CountListLaws.{below-first, below-rest}
 use Rattle.crossings.proofs.RaiseLaws.{length-raised, all-raised}
 
@@ -102,21 +103,32 @@ swept-pairs n r {gs} low =
     sym (swept-inserted r 0 n (replicate n 0) [] (length-replicate {A = ℕ} n 0) low (record { onward = λ j l b. sym (right-zero n l) }))
     ∙ inserted-pairs (rightward-placed r 0 gs)
 
--- ---- the segments of a single point do not cross
+-- ---- the segments of a single point do not cross, nor those to a single point
 
-all-zero : (n : ℕ) (ls : List ℕ) → rightOfAll (replicate n 0) ls ≡ 0
+all-still : (counts ls : List ℕ) → ((l : ℕ) → rightOf counts l ≡ 0) → rightOfAll counts ls ≡ 0
 unfolding rightOfAll
-all-zero n [] = refl
-all-zero n (l ∷ ls) = omega (arith, right-zero n l, all-zero n ls)
+all-still counts [] h = refl
+all-still counts (l ∷ ls) h = omega (arith, h l, all-still counts ls h)
 
 swept-one : (n : ℕ) {gs : List (List ℕ)} → AllBelow n gs → length gs < 2 → swept (replicate n 0) gs ≡ 0
 unfolding swept
 swept-one n none-below h = refl
-swept-one n (one-below {ls} a none-below) h = omega (arith, all-zero n ls)
+swept-one n (one-below {ls} a none-below) h = omega (arith, all-still (replicate n 0) ls (right-zero n))
 swept-one n (one-below a (one-below b rest)) h = absurd (omega arith)
 
 pub one-crossings : (n : ℕ) {gs : List (List ℕ)} → AllBelow n gs → length gs < 2 → CrossingsOf 0 gs
 one-crossings n low few = record { counted = λ r. sym (swept-one n low few) ∙ swept-pairs n r low }
+
+-- there is nothing right of a single position
+swept-narrow : (gs : List (List ℕ)) (counts : List ℕ) → length counts < 2 → swept counts gs ≡ 0
+unfolding swept
+swept-narrow [] counts h = refl
+swept-narrow (ls ∷ gs) counts h =
+    omega (arith, all-still counts ls (right-narrow counts h), swept-narrow gs (raised ls counts) (omega (arith, length-raised ls counts)))
+
+pub narrow-crossings : (n : ℕ) {gs : List (List ℕ)} → AllBelow n gs → n < 2 → CrossingsOf 0 gs
+narrow-crossings n {gs} low few =
+    record { counted = λ r. sym (swept-narrow gs (replicate n 0) (omega (arith, length-replicate {A = ℕ} n 0))) ∙ swept-pairs n r low }
 
 pub groups-length : (lower pos next head points : List ℕ) → length (groups lower pos next head points) ≡ length points
 unfolding groups
@@ -153,28 +165,30 @@ low-at lower pos next head (p ∷ points) (one-below a b) zero h = a
 low-at lower pos next head (p ∷ points) (one-below a b) (suc i) h = low-at lower pos next head points b i (omega arith)
 
 -- the first i points are counted and counted in
-pub record Sweeping (lower pos next head points : List ℕ) (n : ℕ) (counts blocks : List ℕ) (sum i : ℕ) : Type 0 where
+pub record Sweeping (lower pos next head points : List ℕ) (n : ℕ) (counts blocks : List ℕ) (last sum i : ℕ) : Type 0 where
   pub within : i ≤ length points
   pub low : AllBelow n (groups lower pos next head points)
   pub kept : length counts ≡ n
   pub held : Blocked counts blocks
+  pub behind : NoneBehind counts last
   pub few : allCounted counts + groupedCount (groups lower pos next head (drop i points)) ≡ groupedCount (groups lower pos next head points)
   pub so-far : sum + swept counts (groups lower pos next head (drop i points)) ≡ swept (replicate n 0) (groups lower pos next head points)
 
 sweeping-none : (lower pos next head points : List ℕ) (n m : ℕ) → n ≤ blockSize * m → AllBelow n (groups lower pos next head points)
-    → Sweeping lower pos next head points n (replicate n 0) (replicate m 0) 0 0
+    → Sweeping lower pos next head points n (replicate n 0) (replicate m 0) 0 0 0
 sweeping-none lower pos next head points n m e low = record {
   within = omega arith;
   low = low;
   kept = length-replicate {A = ℕ} n 0;
   held = blocked-zero n m e;
+  behind = behind-zero n;
   few = omega (arith, range-zero n 0 (length {A = ℕ} (replicate n 0)));
   so-far = omega arith;
 }
 
 -- two slices cleared
 pub sweeping-start : (lower pos next head points : List ℕ) (n m : ℕ) {counts blocks : List ℕ} → AllBelow n (groups lower pos next head points)
-    → n ≤ blockSize * m → counts ≡ replicate n 0 → blocks ≡ replicate m 0 → Sweeping lower pos next head points (length counts) counts blocks 0 0
+    → n ≤ blockSize * m → counts ≡ replicate n 0 → blocks ≡ replicate m 0 → Sweeping lower pos next head points (length counts) counts blocks 0 0 0
 sweeping-start lower pos next head points n m low e p q =
     rw (q, p, length-replicate {A = ℕ} n 0) (sweeping-none lower pos next head points n m e low)
 
@@ -190,7 +204,7 @@ swept-none : (counts : List ℕ) {gs : List (List ℕ)} → gs ≡ [] → swept 
 unfolding swept
 swept-none counts e = ap (swept counts) e
 
-module _ {lower pos next head points counts blocks : List ℕ} {n sum i : ℕ} (c : Sweeping lower pos next head points n counts blocks sum i) where
+module _ {lower pos next head points counts blocks : List ℕ} {n last sum i : ℕ} (c : Sweeping lower pos next head points n counts blocks last sum i) where
   -- no more are counted in than there are segments
   pub sweeping-few : groupedCount (groups lower pos next head points) < segmentLimit → allCounted counts < segmentLimit
   sweeping-few h = omega (arith, c .few)
@@ -205,14 +219,15 @@ module _ {lower pos next head points counts blocks : List ℕ} {n sum i : ℕ} (
     sweeping-room few q =
         omega (arith, c .so-far, q, swept-more counts (groups-more lower pos next head points i h), swept-most n (c .low) few)
 
-    pub sweeping-more : {r : ℕ} {counts′ blocks′ : List ℕ} → r ≡ rightOfAll counts (lows lower pos next (at head (at points i)))
-        → counts′ ≡ raised (lows lower pos next (at head (at points i))) counts → Blocked counts′ blocks′
-        → Sweeping lower pos next head points n counts′ blocks′ (sum + r) (i + 1)
-    sweeping-more {r} {counts′} q w b = record {
+    pub sweeping-more : {r far : ℕ} {counts′ blocks′ : List ℕ} → r ≡ rightOfAll counts (lows lower pos next (at head (at points i)))
+        → counts′ ≡ raised (lows lower pos next (at head (at points i))) counts → Blocked counts′ blocks′ → NoneBehind counts′ far
+        → Sweeping lower pos next head points n counts′ blocks′ far (sum + r) (i + 1)
+    sweeping-more {counts′ = counts′} q w b f = record {
       within = omega arith;
       low = c .low;
       kept = ap length w ∙ length-raised (lows lower pos next (at head (at points i))) counts ∙ c .kept;
       held = b;
+      behind = f;
       few = omega (arith, c .few, ap allCounted w, all-raised n (lows lower pos next (at head (at points i))) (low-at lower pos next head points (c .low) i h) counts (c .kept), size-more (groups-more lower pos next head points i h));
       so-far = omega (
         arith,

@@ -17,7 +17,7 @@ use Rattle.crossings.specs.Tally.{range, allCounted, rightOf, blockSize,
 
 -- ---- sums of parts
 
-range-split : (s : List ℕ) (a m n : ℕ) → range s a (m + n) ≡ range s a m + range s (a + m) n
+pub range-split : (s : List ℕ) (a m n : ℕ) → range s a (m + n) ≡ range s a m + range s (a + m) n
 unfolding range
 range-split s a zero n = simp (zero-add, add-zero)
 range-split s a (suc m) n =
@@ -29,29 +29,34 @@ range-none : (s : List ℕ) (a : ℕ) → range s a 0 ≡ 0
 unfolding range
 range-none s a = refl
 
--- nothing stands past the end
-range-past : (s : List ℕ) (a n : ℕ) → length s ≤ a → range s a n ≡ 0
-unfolding range
-range-past s a zero h = refl
-range-past s a (suc n) h = omega (arith, List·getD-eq-default s 0 {n = a} h, range-past s (suc a) n (omega arith))
+-- where all is 0 from w on
+module _ (s : List ℕ) (w : ℕ) (none : (i : ℕ) → w ≤ i → at s i ≡ 0) where
+  pub range-past : (a n : ℕ) → w ≤ a → range s a n ≡ 0
+  unfolding range
+  range-past a zero h = refl
+  range-past a (suc n) h = omega (arith, none a h, range-past (suc a) n (omega arith))
 
--- so a part may be cut off there
-range-cut : (s : List ℕ) (a e m : ℕ) → a ≤ length s → m ≡ min e (length s) → range s a (m - a) ≡ range s a (e - a)
-range-cut s a e m h q = go (decLt (length s) e)
-  where
-    go : Dec (length s < e) → range s a (m - a) ≡ range s a (e - a)
-    go (no d) = let k : m ≡ e = omega arith in ap (λ (x : ℕ). range s a (x - a)) k
-    go (yes l) =
-        let k : m ≡ length s = omega arith in
-        let parts : e - a ≡ (m - a) + (e - m) = omega arith in
-        let seam : a + (m - a) ≡ m = omega arith in
-        omega (
-          arith,
-          ap (λ (x : ℕ). range s a x) parts,
-          range-split s a (m - a) (e - m),
-          ap (λ (x : ℕ). range s x (e - m)) seam,
-          range-past s m (e - m) (omega arith),
-        )
+  -- a part may be cut off there
+  pub range-cut : (a e m : ℕ) → a ≤ w → m ≡ min e w → range s a (m - a) ≡ range s a (e - a)
+  range-cut a e m h q = go (decLt w e)
+    where
+      go : Dec (w < e) → range s a (m - a) ≡ range s a (e - a)
+      go (no d) = let k : m ≡ e = omega arith in ap (λ (x : ℕ). range s a (x - a)) k
+      go (yes l) =
+          let k : m ≡ w = omega arith in
+          let parts : e - a ≡ (m - a) + (e - m) = omega arith in
+          let seam : a + (m - a) ≡ m = omega arith in
+          omega (
+            arith,
+            ap (λ (x : ℕ). range s a x) parts,
+            range-split s a (m - a) (e - m),
+            ap (λ (x : ℕ). range s x (e - m)) seam,
+            range-past m (e - m) (omega arith),
+          )
+
+-- as it is past the end
+past-end : (s : List ℕ) (i : ℕ) → length s ≤ i → at s i ≡ 0
+past-end s i h = List·getD-eq-default s 0 {n = i} h
 
 inside-most : (s : List ℕ) (a n : ℕ) → a + n ≤ length s → range s a n ≤ allCounted s
 inside-most s a n h =
@@ -70,12 +75,12 @@ part-most : (s : List ℕ) (a n : ℕ) → range s a n ≤ allCounted s
 part-most s a n = go (decLt a (length s))
   where
     go : Dec (a < length s) → range s a n ≤ allCounted s
-    go (no d) = omega (arith, range-past s a n (omega arith))
+    go (no d) = omega (arith, range-past s (length s) (past-end s) a n (omega arith))
     go (yes h) =
         let k : a + n - a ≡ n = omega arith in
         omega (
           arith,
-          range-cut s a (a + n) (min (a + n) (length s)) (omega arith) refl,
+          range-cut s (length s) (past-end s) a (a + n) (min (a + n) (length s)) (omega arith) refl,
           ap (λ (x : ℕ). range s a x) k,
           inside-most s a (min (a + n) (length s) - a) (omega arith),
         )
@@ -117,7 +122,7 @@ module _ {s : List ℕ} {from to sum i : ℕ} (l : Summed s from to sum i) where
 
 module _ {counts blocks : List ℕ} (h : Blocked counts blocks) where
   -- n blocks from b on hold what their positions hold
-  blocks-hold : (b n : ℕ) → b + n ≤ length blocks → range blocks b n ≡ range counts (blockSize * b) (blockSize * n)
+  pub blocks-hold : (b n : ℕ) → b + n ≤ length blocks → range blocks b n ≡ range counts (blockSize * b) (blockSize * n)
   unfolding range
   blocks-hold b zero l = refl
   blocks-hold b (suc n) l =
@@ -132,52 +137,22 @@ module _ {counts blocks : List ℕ} (h : Blocked counts blocks) where
         ap (λ (x : ℕ). range counts x (blockSize * n)) on,
       )
 
-  -- what the blocks hold from b on is at most the whole
-  blocks-most : (b : ℕ) → b ≤ length blocks → range blocks b (length blocks - b) ≤ allCounted counts
-  blocks-most b l = omega (arith, blocks-hold b (length blocks - b) (omega arith), part-most counts (blockSize * b) (blockSize * (length blocks - b)))
+  -- the block of position l
+  pub block-in : (l : ℕ) → l < length counts → l / blockSize < length blocks
+  block-in l g = omega (arith, h .long)
 
-  -- What is right of l is the rest of l's block and the blocks after it. Both are taken up to where the blocks end.
-  parts-right : (l b : ℕ) → l < length counts → blockSize * b ≤ l → l < blockSize * b + blockSize → b < length blocks
-      → range counts (l + 1) (b * blockSize + blockSize - (l + 1)) + range blocks (b + 1) (length blocks - (b + 1)) ≡ rightOf counts l
-  unfolding rightOf
-  parts-right l b g low high in-blocks =
-      let one : suc l ≡ l + 1 = omega arith in
-      let all : blockSize * length blocks - (l + 1) ≡ (b * blockSize + blockSize - (l + 1)) + blockSize * (length blocks - (b + 1)) = omega arith in
-      let on : l + 1 + (b * blockSize + blockSize - (l + 1)) ≡ blockSize * (b + 1) = omega arith in
-      omega (
-        arith,
-        ap (λ (x : ℕ). range counts x (length counts - x)) one,
-        range-cut counts (l + 1) (blockSize * length blocks) (length counts) (omega arith) (omega (arith, h .long)),
-        ap (λ (x : ℕ). range counts (l + 1) x) all,
-        range-split counts (l + 1) (b * blockSize + blockSize - (l + 1)) (blockSize * (length blocks - (b + 1))),
-        ap (λ (x : ℕ). range counts x (blockSize * (length blocks - (b + 1)))) on,
-        blocks-hold (b + 1) (length blocks - (b + 1)) (omega arith),
-      )
-
-  -- the block of position l, and what its rest, up to `end`, and the blocks after it hold
-  module _ (l : ℕ) (g : l < length counts) where
-    pub block-in : l / blockSize < length blocks
-    block-in = omega (arith, h .long)
-
-    pub near-most : {end : ℕ} → end ≡ min (l / blockSize * blockSize + blockSize) (length counts) → range counts (l + 1) (end - (l + 1)) ≤ allCounted counts
-    near-most {end} e = part-most counts (l + 1) (end - (l + 1))
-
-    pub far-most : range blocks (l / blockSize + 1) (length blocks - (l / blockSize + 1)) ≤ allCounted counts
-    far-most = blocks-most (l / blockSize + 1) (omega (arith, h .long))
-
-    pub near-far : {end : ℕ} → end ≡ min (l / blockSize * blockSize + blockSize) (length counts)
-        → range counts (l + 1) (end - (l + 1)) + range blocks (l / blockSize + 1) (length blocks - (l / blockSize + 1)) ≡ rightOf counts l
-    near-far {end} e =
-        omega (
-          arith,
-          range-cut counts (l + 1) (l / blockSize * blockSize + blockSize) end (omega arith) e,
-          parts-right l (l / blockSize) g (omega arith) (omega arith) block-in,
-        )
+  pub block-most : (b : ℕ) → b < length blocks → at blocks b ≤ allCounted counts
+  block-most b i = omega (arith, h .each b i, part-most counts (blockSize * b) blockSize)
 
 -- how many end right of a position is at most how many there are
 pub right-most : (counts : List ℕ) (l : ℕ) → rightOf counts l ≤ allCounted counts
 unfolding rightOf
 right-most counts l = part-most counts (suc l) (length counts - suc l)
+
+-- and none do right of a single position
+pub right-narrow : (counts : List ℕ) → length counts < 2 → (l : ℕ) → rightOf counts l ≡ 0
+unfolding rightOf
+right-narrow counts h l = let e : length counts - suc l ≡ 0 = omega arith in ap (λ (x : ℕ). range counts (suc l) x) e ∙ range-none counts (suc l)
 
 -- ---- one more at a position
 
@@ -249,9 +224,6 @@ blocked-raised {counts} {blocks} h l g = record {
           getD-set-other blocks (l / blockSize) b (at blocks (l / blockSize) + 1) 0 d,
           range-apart counts l (at counts l + 1) (blockSize * b) blockSize (λ x p q r. d (omega arith)),
         )
-
-pub block-most : {counts blocks : List ℕ} → Blocked counts blocks → (b : ℕ) → b < length blocks → at blocks b ≤ allCounted counts
-block-most {counts} h b i = omega (arith, h .each b i, part-most counts (blockSize * b) blockSize)
 
 -- ---- nothing counted yet
 

@@ -28,6 +28,11 @@ unfoldable pub raised : List ℕ → List ℕ → List ℕ
 raised [] counts = counts
 raised (l ∷ ls) counts = raised ls (set counts l (at counts l + 1))
 
+-- Nothing is counted behind position `last`, which is one of the positions, or 0 where there is none.
+pub record NoneBehind (counts : List ℕ) (last : ℕ) : Type 0 where
+  pub within : last ≤ length counts - 1
+  pub none : (i : ℕ) → last < i → at counts i ≡ 0
+
 -- positions in a block
 abbrev pub blockSize : ℕ
 blockSize = 32

@@ -1,5 +1,6 @@
 // Crossings between two neighbouring rows. The upper row's points are taken from left to right: for each segment of a point those of
-// earlier points are counted that end right of it, and then the point's segments are counted in.
+// earlier points are counted that end right of it, and then the point's segments are counted in. Most end right of all before them, so
+// the furthest position counted in is kept.
 use crate::tally::count_list;
 use crate::tally::raise_list;
 use buffers::clear_all;
@@ -30,12 +31,13 @@ pub fn count_between(
     clear_all(counts);
     clear_all(blocks);
     let mut sum = 0;
+    let mut last = 0;
     let mut i = 0;
     while i < points.len() {
         let p = points[i];
         let h = head[p];
-        sum += count_list(lower, pos, next, counts, blocks, h);
-        raise_list(lower, pos, next, counts, blocks, h);
+        sum += count_list(lower, pos, next, counts, blocks, last, h);
+        last = raise_list(lower, pos, next, counts, blocks, last, h);
         i += 1;
     }
     sum

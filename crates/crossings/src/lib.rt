@@ -31,7 +31,7 @@ pub fn count_crossings(
     sum
 }
 
-// The crossings between row r and the row below: none where row r is a single point. Of the counts and blocks as many are lent on as
+// The crossings between row r and the row below: none where either is a single point. Of the counts and blocks as many are lent on as
 // the lower row has positions for.
 fn count_row(
     order: &[usize],
@@ -55,6 +55,9 @@ fn count_row(
     }
     let e = first[r + 2];
     let n = e - b;
+    if n < 2 {
+        return 0;
+    }
     let m = n / 32 + 1;
     let points = &order[a..b];
     let used = &mut counts[..n];

@@ -1,6 +1,2 @@
-pub mod FewestLaws
-pub mod CountableLaws
-pub mod DraftLaws
+pub mod RoomLaws
 pub mod DrawLaws
-pub mod CompleteLaws
-pub mod SampleLaws

@@ -1,4 +1,3 @@
--- The order of a chart, the first with fewest crossings of the start and the passes, and what the functions that find it promise one another.
-pub mod Fewest
+-- What drawing a chart asks and answers, and the room in which it is drawn.
 pub mod Drawing
-pub mod Drafts
+pub mod Rooms

@@ -1,18 +1,20 @@
 // The calls for C. Slices are a pointer and a length; answers are packed into one word. Each contract says what the header's functions read
 // out of the word, in the numbers that the call tells, which word it is, and what the lent buffers hold at the end. All of it is in
 // specs/Words.antt and in the specs of the layers below.
-use layering::types::RowsAnswer;
 use ordering::ChartAnswer;
 use ordering::Figures;
 use outcome::Refusal;
-use table::types::CountsAnswer;
-use table::types::NameAnswer;
+use queries::types::CountsAnswer;
+use queries::types::NameAnswer;
+use rows::types::RowsAnswer;
 ghost use mathlib.Core.Path.{_≡_};
 ghost use mathlib.Core.List.{_∷_};
 ghost use Prim.Native.Nat.{_<_};
 ghost use Rattle.outcome.specs.Refusal.{numbersOf, stepOf};
-ghost use Rattle.table.specs.Calls.{countsCall, nameCall};
-ghost use Rattle.layering.specs.Calls.{rowsCall, recordsOf, recordCall, TableBest, RecordsBest};
+ghost use Rattle.queries.specs.Calls.{countsCall, nameCall};
+ghost use Rattle.flatten.specs.Records.{recordsOf};
+ghost use Rattle.edgelist.specs.Calls.{recordCall, RecordsBest};
+ghost use Rattle.layering.specs.Calls.{rowsCall, TableBest};
 ghost use Rattle.ordering.specs.Calls.{figuresNumbers, chartCall, ChartBest};
 ghost use Rattle.ordering.specs.Charting.{Small};
 ghost use Rattle.host.specs.Words.{second, countsRead, countsWord, nameRead, nameWord, doneRead, doneWord, chartRead, chartWord};
@@ -31,7 +33,7 @@ pub extern "C" fn yuvatondro_counts(table: &[u8]) -> u64
     ensures { λ r. ⌜ countsRead r ≡ countsCall (now (table .entry)) ⌝ }
     ensures { λ r. ⌜ r ≡ countsWord (countsCall (now (table .entry))) ⌝ }
 {
-    match table::count_table(table) {
+    match queries::count_table(table) {
         CountsAnswer::Refused(f) => refusal_word(f),
         CountsAnswer::Counted(c) => (c.steps * SECOND + c.edges * THIRD) as u64,
     }
@@ -43,7 +45,7 @@ pub extern "C" fn yuvatondro_name(table: &[u8], step: usize) -> u64
     ensures { λ r. ⌜ nameRead r ≡ nameCall (now (table .entry)) step ⌝ }
     ensures { λ r. ⌜ r ≡ nameWord (nameCall (now (table .entry)) step) ⌝ }
 {
-    match table::find_name(table, step) {
+    match queries::find_name(table, step) {
         NameAnswer::Refused(f) => refusal_word(f),
         NameAnswer::At(start, len) => (len * SECOND + start * THIRD) as u64,
     }
@@ -71,7 +73,7 @@ pub extern "C" fn yuvatondro_records(steps: usize, records: &[usize], rows: &mut
     ensures { λ _. ⌜ now (rows .exit) ≡ recordCall steps (recordsOf (now (records .entry))) (now (rows .entry)) .rows ⌝ }
     ensures { λ r. ⌜ RecordsBest steps (recordsOf (now (records .entry))) (doneRead r) (now (rows .exit)) ⌝ }
 {
-    match layering::find_rows_of_numbers(steps, records, rows) {
+    match edgelist::find_rows_of_numbers(steps, records, rows) {
         RowsAnswer::Refused(f) => refusal_word(f),
         RowsAnswer::Done => 0,
     }

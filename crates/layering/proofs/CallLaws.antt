@@ -2,9 +2,8 @@
 use mathlib.Core.Path.{_≡_, refl, sym, ap, subst, _∙_}
 use mathlib.Core.List.{List, []}
 use mathlib.Core.Option.{Option, none, some}
-use Prim.Native.Nat.{ℕ, _-_, _≤_, _<_}
+use Prim.Native.Nat.{ℕ, _-_, _≤_}
 use native.Mathlib.Omega.{arith}
-use borrow.Author.Tests.{le-leb, lt-leb}
 use lib.ListN.{length, take, length-append, length-replicate}
 use lib.Seq.{take-append-seam}
 use Rattle.graph.specs.declared.Edge.{Edge}
@@ -12,7 +11,6 @@ use Rattle.graph.specs.Rows.{noEdge, Best, Within}
 use Rattle.graph.specs.Search.{rowsOf}
 use Rattle.graph.proofs.BoundLaws.{best-is-rowsOf}
 use Rattle.outcome.specs.declared.Refusal.{Refusal}
-use Rattle.outcome.specs.declared.Refusal.the-variants.{ManySteps, ManyEdges}
 use Rattle.outcome.specs.declared.Verdict.{Verdict}
 use Rattle.outcome.specs.declared.Verdict.the-variants.{Accepted, Refused}
 use Rattle.table.specs.declared.types.Table.{Table}
@@ -26,53 +24,15 @@ use Rattle.table.proofs.FairLaws.{read-fair}
 use Rattle.outcome.proofs.ToldLaws.{number-some, verdict-accepted, verdict-refused}
 use Rattle.buffers.proofs.PaddedLaws.{padded-long}
 use Rattle.table.proofs.AnswerLaws.{Told}
-use Rattle.layering.specs.declared.types.RowsAnswer.{RowsAnswer}
-use Rattle.layering.specs.declared.types.RowsFound.{RowsFound}
+use Rattle.rows.specs.declared.types.RowsAnswer.{RowsAnswer}
+use Rattle.rows.specs.declared.types.RowsFound.{RowsFound}
 use Rattle.layering.specs.declared.types.TableRows.{TableRows}
 use Rattle.acyclic.specs.Loops.{lowestOnLoop}
-use Rattle.layering.specs.Calls.{rowsFound, rowsNumbers, rowsOfTable, rowsCall, recordsJudged, rowsOfRecords, recordCall, TableBest, unlessLoop, rowsBy, totalBy, PlaceEnd, placeCall, placeEnd}
-use Rattle.layering.specs.Placed.{outcomeBy, heldRows, FairEdges, noRows, Placed, EdgesPlaced, RowsHandedOut, TablePlaced, RecordsPlaced}
-use Rattle.layering.specs.Lent.{RecordsAnswered}
-use Rattle.layering.proofs.StoreLaws.{handed-best}
-use Rattle.layering.proofs.PlaceLaws.{placed-refused, best-low}
-use Rattle.layering.proofs.RecordLaws.{judged-fair}
-
--- ---- the record form
-
-module _ (n : ℕ) (edges : List Edge) where
-  pub records-many-steps : maxSteps < n → rowsOfRecords n edges ≡ refused ManySteps
-  unfolding rowsOfRecords
-  records-many-steps h = simp (lt-leb n maxSteps h)
-
-  module _ (few : n ≤ maxSteps) where
-    pub records-many-edges : maxEdges < length edges → rowsOfRecords n edges ≡ refused ManyEdges
-    unfolding rowsOfRecords
-    records-many-edges h = simp (le-leb n maxSteps few, lt-leb (length edges) maxEdges h)
-
-    module _ (fewer : length edges ≤ maxEdges) where
-      pub records-fault : {f : Refusal} → recordsJudged n edges ≡ refused f → rowsOfRecords n edges ≡ refused f
-      unfolding rowsOfRecords
-      records-fault e = simp (le-leb n maxSteps few, le-leb (length edges) maxEdges fewer, e)
-
-      module _ (judged : recordsJudged n edges ≡ done tt) where
-        outcome : rowsOfRecords n edges ≡ rowsFound n edges
-        unfolding rowsOfRecords
-        outcome = simp (le-leb n maxSteps few, le-leb (length edges) maxEdges fewer, judged)
-
-        pub records-fair : FairEdges n edges
-        records-fair = record { few-steps = few; few-edges = fewer; each = judged-fair n edges judged }
-
-        pub records-placed : {f : RowsFound} → EdgesPlaced n edges f → RecordsPlaced n edges f
-        records-placed {f} p = subst (λ o. Placed n edges o f) (sym outcome) p
-
--- what the call promises
-pub record-call : (n : ℕ) (edges : List Edge) (f : RowsFound) (old new : List ℕ) (r : RowsAnswer) → RecordsPlaced n edges f
-    → RowsHandedOut (heldRows n f) old new r
-    → RecordsAnswered n edges old new r
-unfolding recordCall
-record-call n edges f old new r p h =
-    let k : RowsHandedOut (rowsOfRecords n edges) old new r = subst (λ o. RowsHandedOut o old new r) (p .says) h in
-    (k .numbers, (k .rows, handed-best n edges (rowsOfRecords n edges) f p old new r k))
+use Rattle.rows.specs.Answers.{rowsFound, rowsNumbers, unlessLoop, rowsBy, totalBy}
+use Rattle.rows.specs.Placed.{outcomeBy, heldRows, FairEdges, noRows, Placed, EdgesPlaced, RowsHandedOut}
+use Rattle.rows.proofs.StoreLaws.{handed-best}
+use Rattle.rows.proofs.PlacedLaws.{placed-refused, best-low}
+use Rattle.layering.specs.Calls.{rowsOfTable, rowsCall, TableBest, TablePlaced, PlaceEnd, placeCall, placeEnd}
 
 -- ---- the rows call
 

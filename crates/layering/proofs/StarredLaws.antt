@@ -6,7 +6,8 @@ use Rattle.graph.specs.Search.{run, keepsOne, keeps, sieve, extend, placements,
 use Rattle.table.specs.Number.{byteAt, numberAt, numberIn, many}
 use Rattle.table.specs.Table.{adjustAt, waitAt, kindAt, nameByteAt, nameAt, namedAt, stepAt, endAt, edgeBetween, edgeAt, stepsAt, edgesAt, listsAt, tableAt, read}
 use Rattle.acyclic.specs.Loops.{mark, sweep, sweeps, reached, onLoop, firstFrom, lowestOnLoop}
-use Rattle.layering.specs.Calls.{rowsFound, rowsOfTable}
+use Rattle.rows.specs.Answers.{rowsFound}
+use Rattle.layering.specs.Calls.{rowsOfTable}
 use Rattle.layering.specs.Starred.{tellRows, starredRows}
 
 -- finding the rows of each case tells what the case says

@@ -1,6 +1,3 @@
--- Edges in flat arrays and as they are lent, and what the calls of the row finder make of their input.
-pub mod Flat
+-- What the calls of the row finder make of a table.
 pub mod Calls
-pub mod Placed
-pub mod Lent
 pub mod Starred

@@ -5,7 +5,8 @@ use Rattle.table.specs.Hex.{hex}
 use Rattle.outcome.specs.Refusal.{told}
 use Rattle.table.specs.Starred.{Case, case, sample}
 use Rattle.table.specs.Table.{contentsOf, read}
-use Rattle.layering.specs.Calls.{rowsOfTable, totalBy}
+use Rattle.rows.specs.Answers.{totalBy}
+use Rattle.layering.specs.Calls.{rowsOfTable}
 
 -- the numbers of finding rows, the total and the rows
 abbrev pub tellRows : List ℕ → List ℕ

@@ -1,24 +1,6 @@
-// What the row finder gives: rows, their total, or why there are none.
-use outcome::Refusal;
-use outcome::Verdict;
-use table::limits::MAX_STEPS;
+// What the row finder gives of a table.
+use rows::types::RowsFound;
 use table::types::Table;
-
-// A row in a buffer that is lent.
-pub type Row = u8;
-
-// Rows are in the buffer, or why they are not.
-pub enum RowsAnswer {
-    Done,
-    Refused(Refusal),
-}
-
-// The rows, one a step, and their total, or why there are none.
-pub struct RowsFound {
-    pub verdict: Verdict,
-    pub rows: [usize; MAX_STEPS],
-    pub total: usize,
-}
 
 // A table and its rows. A refused table is blank.
 pub struct TableRows {

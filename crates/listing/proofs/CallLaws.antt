@@ -11,14 +11,15 @@ use Rattle.outcome.specs.declared.Refusal.{Refusal}
 use Rattle.outcome.specs.declared.Refusal.the-variants.{ShortBuffer}
 use Rattle.outcome.specs.declared.Verdict.the-variants.{Refused}
 use Rattle.outcome.specs.Refusal.{Outcome, done, refused, numberOf, refusalIn}
-use Rattle.layering.specs.Placed.{outcomeBy}
+use Rattle.rows.specs.Placed.{outcomeBy}
 use Rattle.ordering.specs.declared.types.ChartFound.{ChartFound}
 use Rattle.ordering.specs.Calls.{Placing, Charted, chartOfTable, chartOut}
 use Rattle.ordering.specs.Charting.{chartedBy, TableFound}
 use Rattle.buffers.specs.Written.{Stored}
 use Rattle.buffers.proofs.WriteLaws.{written-is}
 use Rattle.listing.specs.declared.ListingAnswer.the-variants.{Written, Short}
-use Rattle.listing.specs.Listing.{refusalText, outcomeText, listing}
+use Rattle.lines.specs.Lines.{refusalText}
+use Rattle.listing.specs.Listing.{outcomeText, listing}
 use Rattle.listing.specs.Widths.{maxListing}
 use Rattle.listing.specs.Calls.{ListingEnd, listingCall, listingNumbers}
 use Rattle.listing.proofs.WidthLaws.{listing-short}

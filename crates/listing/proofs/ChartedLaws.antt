@@ -20,12 +20,12 @@ use Rattle.table.specs.Table.{Contents, contentsOf, read}
 use Rattle.table.specs.Calls.{noStep, readCall}
 use Rattle.buffers.specs.Padded.{padded}
 use Rattle.table.proofs.ArrayLaws.{array-steps, array-list, array-count, array-edges, array-long}
-use Rattle.layering.specs.Calls.{rowsFound}
-use Rattle.layering.specs.Placed.{outcomeBy}
+use Rattle.rows.specs.Answers.{rowsFound}
+use Rattle.rows.specs.Placed.{outcomeBy}
 use Rattle.ordering.specs.declared.Figures.{Figures}
 use Rattle.ordering.specs.declared.types.ChartFound.{ChartFound}
 use Rattle.points.specs.Points.{rowCount}
-use Rattle.drawing.specs.Fewest.{drawingOf}
+use Rattle.fewest.specs.Fewest.{drawingOf}
 use Rattle.ordering.specs.Calls.{Placing, pointCount, unlessMany, chartOfTable, Charted, charted, chartOut}
 use Rattle.ordering.specs.Charting.{chartedBy, TableFound}
 

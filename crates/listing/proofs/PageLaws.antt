@@ -19,16 +19,17 @@ use Rattle.buffers.proofs.PaddedLaws.{padded-long}
 use Rattle.table.proofs.FairLaws.{read-fair}
 use Rattle.ordering.specs.declared.types.ChartFound.{ChartFound}
 use Rattle.points.specs.Points.{Dummy, dummies, pointRows, rowCount}
-use Rattle.drawing.specs.Fewest.{drawingOf}
+use Rattle.fewest.specs.Fewest.{drawingOf}
 use Rattle.buffers.specs.Written.{Stored}
 use Rattle.buffers.proofs.WriteLaws.{stored-append, stored-long, written-take}
-use Rattle.drawing.proofs.CompleteLaws.{drawing-count, drawing-points}
+use Rattle.fewest.proofs.CompleteLaws.{drawing-count, drawing-points}
 use Rattle.listing.specs.Listing.{headText, pointText, rowLines, chartText, listing}
 use Rattle.listing.specs.Widths.{maxListing}
-use Rattle.listing.specs.Printing.{labelText, linesFrom, ownersOf, dummyRows, Layable, Sheet}
+use Rattle.labels.specs.Labels.{labelText}
+use Rattle.lines.specs.Printing.{linesFrom, ownersOf, dummyRows, Layable, Sheet}
 use Rattle.listing.proofs.RowLineLaws.{drawing-lines, rows-cong, getD-padded, label-is}
 use Rattle.listing.proofs.ChartedLaws.{Opened}
-use Rattle.listing.proofs.PutLaws.{room-first, room-then}
+use Rattle.labels.proofs.PutLaws.{room-first, room-then}
 use Rattle.listing.proofs.WidthLaws.{listing-short}
 
 -- the points are the steps and the dummies

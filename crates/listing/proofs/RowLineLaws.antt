@@ -16,13 +16,15 @@ use Rattle.table.specs.Limits.{maxSteps}
 use Rattle.table.specs.Calls.{noStep}
 use Rattle.buffers.specs.Padded.{padded}
 use Rattle.points.specs.Points.{Dummy, pointRows, rowCount}
-use Rattle.drawing.specs.Fewest.{drawingOf}
+use Rattle.fewest.specs.Fewest.{drawingOf}
 use Rattle.buffers.specs.Lists.{occurs}
 use Rattle.buffers.proofs.OccursLaws.{at-occurs}
-use Rattle.drawing.proofs.CompleteLaws.{drawing-rows, drawing-once, drawing-none}
-use Rattle.listing.specs.Text.{decimal}
-use Rattle.listing.specs.Listing.{line, stepText, dummyText, noDummy, pointText, rowLines}
-use Rattle.listing.specs.Printing.{labelText, leading, lineIn, linesFrom, ownersOf}
+use Rattle.fewest.proofs.CompleteLaws.{drawing-rows, drawing-once, drawing-none}
+use Rattle.labels.specs.Text.{decimal}
+use Rattle.lines.specs.Lines.{line}
+use Rattle.labels.specs.Labels.{stepText, dummyText, labelText}
+use Rattle.listing.specs.Listing.{noDummy, pointText, rowLines}
+use Rattle.lines.specs.Printing.{leading, lineIn, linesFrom, ownersOf}
 
 -- ---- rows one behind the other
 

@@ -7,7 +7,7 @@ use Rattle.table.specs.Number.{byteAt, numberAt, numberIn, many}
 use Rattle.table.specs.Table.{adjustAt, waitAt, kindAt, nameByteAt, nameAt, namedAt, stepAt, endAt, edgeBetween, edgeAt, stepsAt, edgesAt, listsAt, tableAt, read}
 use Rattle.table.specs.Starred.{Case}
 use Rattle.acyclic.specs.Loops.{mark, sweep, sweeps, reached, onLoop, firstFrom, lowestOnLoop}
-use Rattle.layering.specs.Calls.{rowsFound}
+use Rattle.rows.specs.Answers.{rowsFound}
 use Rattle.points.specs.Points.{dummies, pointRows, chain, segmentsFrom, segments, rowCount}
 use Rattle.points.specs.Positions.{position, place}
 use Rattle.buffers.specs.Lists.{sum}
@@ -15,10 +15,10 @@ use Rattle.barycentre.specs.Means.{meanOf, insert, sortOnto, moving, fill, reor
 use Rattle.passes.specs.Order.{pointsIn, startOrder, settleRow, downFrom, upFrom, results}
 use Rattle.barycentre.specs.PointEnds.{ends}
 use Rattle.crossings.specs.Crossings.{crossingsWith, crossingPairs, crossings}
-use Rattle.drawing.specs.Fewest.{drawn, fewest, bestOrder, drawingOf}
+use Rattle.fewest.specs.Fewest.{drawn, fewest, bestOrder, drawingOf}
 use Rattle.ordering.specs.Calls.{chartOfTable}
-use Rattle.listing.specs.Text.{digits}
-use Rattle.listing.specs.Listing.{blanked, rowLines, chartText, listing}
+use Rattle.labels.specs.Text.{digits, blanked}
+use Rattle.listing.specs.Listing.{rowLines, chartText, listing}
 use Rattle.listing.specs.Starred.{starredListings}
 
 -- each case prints what it says

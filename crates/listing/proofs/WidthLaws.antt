@@ -27,20 +27,22 @@ use Rattle.table.proofs.FairLaws.{read-fair}
 use Rattle.table.proofs.RangeLaws.{read-range}
 use Rattle.outcome.proofs.ToldLaws.{alone}
 use Rattle.acyclic.specs.Loops.{lowestOnLoop}
-use Rattle.layering.specs.Calls.{unlessLoop, rowsFound}
-use Rattle.layering.specs.Placed.{topRow}
-use Rattle.layering.proofs.StepLaws.{StepLow, never}
+use Rattle.rows.specs.Answers.{unlessLoop, rowsFound}
+use Rattle.rows.specs.Placed.{topRow}
+use Rattle.rows.proofs.StepLaws.{StepLow, never}
 use Rattle.ordering.proofs.StepLaws.{chart-of-step}
 use Rattle.points.specs.Points.{Dummy, between, dummies, rowCount}
-use Rattle.drawing.specs.Fewest.{Drawing, drawingOf}
+use Rattle.fewest.specs.Fewest.{Drawing, drawingOf}
 use Rattle.ordering.specs.Calls.{Placing, pointCount, unlessMany, chartOfTable}
-use Rattle.drawing.proofs.CompleteLaws.{drawing-rows, drawing-count}
+use Rattle.fewest.proofs.CompleteLaws.{drawing-rows, drawing-count}
 use Rattle.ordering.proofs.FigureLaws.{crossings-low, total-low}
-use Rattle.listing.specs.Text.{text, newline, decimal}
-use Rattle.listing.specs.Listing.{blanked, line, kindText, stepText, dummyText, noDummy, pointText, headText, rowLines, chartText, refusalText, outcomeText, listing}
+use Rattle.labels.specs.Text.{text, newline, decimal, blanked}
+use Rattle.lines.specs.Lines.{line, refusalText}
+use Rattle.labels.specs.Labels.{kindText, stepText, dummyText}
+use Rattle.listing.specs.Listing.{noDummy, pointText, headText, rowLines, chartText, outcomeText, listing}
 use Rattle.listing.specs.Widths.{headBytes, rowBytes, pointBytes, maxListing}
-use Rattle.listing.proofs.DecimalLaws.{tens, decimal-short}
-use Rattle.layering.proofs.HeightLaws.{found-low}
+use Rattle.labels.proofs.DecimalLaws.{tens, decimal-short}
+use Rattle.rows.proofs.HeightLaws.{found-low}
 use Rattle.points.proofs.RowCountLaws.{count-low}
 
 -- ---- lines

@@ -3,45 +3,19 @@ use mathlib.Core.Bool.{cond}
 use mathlib.Core.List.{List, [], _∷_, _++_, map}
 use Prim.Native.Nat.{ℕ, suc, _-_}
 use lib.Dec.{ltb}
-use lib.ListN.{length, getD, take, drop}
+use lib.ListN.{length, getD}
 use Rattle.graph.specs.Rows.{at, total}
-use Rattle.table.specs.declared.types.Kind.{Kind}
-use Rattle.table.specs.declared.types.Kind.the-variants.{Check, Adjust, Wait}
-use Rattle.outcome.specs.declared.Refusal.{Refusal}
 use Rattle.table.specs.declared.types.Step.{Step}
 use Rattle.table.specs.Calls.{noStep}
-use Rattle.outcome.specs.Refusal.{Outcome, done, refused, numbersOf}
+use Rattle.outcome.specs.Refusal.{Outcome, done, refused}
 use Rattle.points.specs.Points.{Dummy, dummies, rowCount}
-use Rattle.drawing.specs.Fewest.{drawingOf}
+use Rattle.fewest.specs.Fewest.{drawingOf}
 use Rattle.ordering.specs.Calls.{Placing, chartOfTable}
-use Rattle.listing.specs.Text.{text, blank, newline, decimal}
-
--- ---- lines
-
--- each field behind a blank
-unfoldable pub blanked : List (List ℕ) → List ℕ
-blanked [] = []
-blanked (f ∷ fields) = blank ∷ f ++ blanked fields
-
--- a line: its first field, the others, and the byte that ends it
-abbrev pub line : List ℕ → List (List ℕ) → List ℕ
-line first rest = first ++ blanked rest ++ newline ∷ []
+use Rattle.labels.specs.Text.{text, decimal}
+use Rattle.lines.specs.Lines.{line, refusalText}
+use Rattle.labels.specs.Labels.{stepText, dummyText}
 
 -- ---- points
-
--- what a kind prints: its letter, and the number that it carries
-abbrev pub kindText : Kind → List ℕ
-kindText Check = text "C"
-kindText (Adjust t) = text "A" ++ decimal t
-kindText (Wait m) = text "W" ++ decimal m
-
--- a step: its name, which is a stretch of the table, and its kind
-abbrev pub stepText : List ℕ → Step → List ℕ
-stepText bytes s = take (s .len) (drop (s .start) bytes) ++ text "=" ++ kindText (s .kind)
-
--- a dummy: the number of its edge
-abbrev pub dummyText : ℕ → List ℕ
-dummyText edge = text "|" ++ decimal edge
 
 -- what stands behind the last dummy
 abbrev pub noDummy : Dummy
@@ -71,17 +45,12 @@ chartText bytes p =
     headText (length steps) (length edges) (rowCount (p .rows)) (total edges (at (p .rows))) (drawing .crossings)
     ++ rowLines (pointText bytes steps (dummies (p .rows) 0 edges)) 0 (drawing .order)
 
--- ---- a refusal
+-- ---- the listing
 
--- its number, and for a loop the step
-abbrev pub refusalText : Refusal → List ℕ
-refusalText r = line (text "refused") (map decimal (numbersOf r))
-
+-- a chart's lines, or the line of a refusal
 abbrev pub outcomeText : List ℕ → Outcome Placing → List ℕ
 outcomeText bytes (done p) = chartText bytes p
 outcomeText bytes (refused r) = refusalText r
-
--- ---- the listing
 
 unfoldable pub listing : List ℕ → List ℕ
 listing bytes = outcomeText bytes (chartOfTable bytes)

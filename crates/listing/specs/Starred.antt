@@ -2,7 +2,7 @@
 use mathlib.Core.List.{List, [], _∷_}
 use Rattle.table.specs.Hex.{hex}
 use Rattle.table.specs.Starred.{Case, case, sample}
-use Rattle.listing.specs.Text.{text}
+use Rattle.labels.specs.Text.{text}
 
 -- with each table the bytes that are printed for it
 abbrev pub starredListings : List Case

@@ -2,7 +2,7 @@
 use Prim.Native.Nat.{ℕ, suc, _+_, _*_}
 use Rattle.table.specs.Limits.{maxName}
 use Rattle.points.specs.Limits.{maxPoints}
-use Rattle.layering.specs.Placed.{topRow}
+use Rattle.rows.specs.Placed.{topRow}
 
 -- line one: the word, and behind a blank each the steps (2 digits), edges (3), rows (3), total (8) and crossings (6); and its end
 abbrev pub headBytes : ℕ

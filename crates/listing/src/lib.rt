@@ -2,16 +2,12 @@
 //
 // The call takes any input, ends, and has no condition. Its contract puts its answer, told in numbers, and the buffer equal to what a
 // definition of specs/Calls.antt makes of the input.
-mod dummies;
-mod labels;
 pub mod limits;
-mod lines;
 mod page;
-mod text;
 
 use crate::limits::MAX_LISTING;
 use crate::page::print_page;
-use crate::text::put_text;
+use labels::text::put_text;
 ghost use mathlib.Core.Path.{_≡_};
 ghost use Rattle.listing.specs.Calls.{listingCall, listingNumbers};
 

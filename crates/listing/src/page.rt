@@ -1,8 +1,8 @@
 // The listing of a table, on a page that has room for any.
-use crate::dummies::lay_dummies;
-use crate::lines::put_line;
-use crate::lines::put_refusal;
-use crate::lines::put_rows;
+use lines::dummies::lay_dummies;
+use lines::put_line;
+use lines::put_refusal;
+use lines::put_rows;
 use ordering::chart_table;
 use ordering::types::ChartFound;
 use outcome::Verdict;

@@ -21,9 +21,10 @@ use Rattle.table.specs.Calls.{readCall}
 use Rattle.buffers.specs.Padded.{padded}
 use Rattle.table.proofs.FairLaws.{read-fair}
 use Rattle.table.proofs.ArrayLaws.{array-steps, array-edges, array-few, array-long}
-use Rattle.layering.specs.declared.types.RowsFound.{RowsFound}
-use Rattle.layering.specs.Calls.{rowsFound, rowsOfTable, rowsBy, totalBy}
-use Rattle.layering.specs.Placed.{outcomeBy, TablePlaced}
+use Rattle.rows.specs.declared.types.RowsFound.{RowsFound}
+use Rattle.rows.specs.Answers.{rowsFound, rowsBy, totalBy}
+use Rattle.layering.specs.Calls.{rowsOfTable, TablePlaced}
+use Rattle.rows.specs.Placed.{outcomeBy}
 use Rattle.ordering.specs.declared.ChartAnswer.{ChartAnswer}
 use Rattle.ordering.specs.declared.types.ChartFound.{ChartFound}
 use Rattle.ordering.specs.declared.types.TableChart.{TableChart}

@@ -1,12 +1,12 @@
 -- Best rows of fair edges make a chart: each edge leads down by its gap at least, and that is 1 or more. What is drawn from the ends of
 -- the edges is the chart of the edges, since gaps and weights play no part in it.
 use mathlib.Core.Path.{_≡_, refl, sym, ap, _∙_}
-use mathlib.Core.List.{List, flatten}
+use mathlib.Core.List.{List, _++_, flatten}
 use Prim.Native.Nat.{ℕ, _≤_, _<_}
 use native.Mathlib.Omega.{arith}
 use borrow.Author.Tests.{le-leb, lt-leb}
-use lib.ListN.{length, getD, take, length-map, List·getD-map}
-use lib.Seq.{getD-take, length-take-le}
+use lib.ListN.{length, getD, take, drop, replicate, length-map, List·getD-map}
+use lib.Seq.{getD-take}
 use Rattle.graph.specs.declared.Edge.{Edge}
 use Rattle.graph.specs.Rows.{at, noEdge, total}
 use Rattle.outcome.specs.declared.Refusal.{Refusal}
@@ -15,16 +15,17 @@ use Rattle.outcome.specs.declared.Verdict.the-variants.{Accepted, Refused}
 use Rattle.points.specs.Limits.{maxPoints}
 use Rattle.outcome.specs.Refusal.{Outcome, done, refused}
 use Rattle.buffers.specs.Padded.{padded}
-use Rattle.buffers.proofs.PaddedLaws.{padded-long, padded-front}
+use Rattle.buffers.proofs.PaddedLaws.{padded-long, padded-front, drop-zeros}
 use Rattle.ordering.specs.declared.types.ChartFound.{ChartFound}
 use Rattle.points.specs.Points.{pointRows, rowCount}
-use Rattle.drawing.specs.Fewest.{Drawing, drawingOf}
+use Rattle.fewest.specs.Fewest.{Drawing, drawingOf}
+use Rattle.drawing.specs.Drawing.{Drawable, DrawnIs}
 use Rattle.points.specs.Laying.{edgesBetween, Chart}
 use Rattle.ordering.specs.Calls.{pointCount, Charted, chartBy, ChartArrays, arraysOf, arraysIn}
-use Rattle.layering.specs.Placed.{outcomeBy}
-use Rattle.ordering.specs.Charting.{noChart, chartedBy, Sizable, PointsAre, RowsGiven, ChartHeld, unlessLarge, EdgesFound}
+use Rattle.rows.specs.Placed.{outcomeBy}
+use Rattle.ordering.specs.Charting.{noChart, chartedBy, Sizable, RowsGiven, ChartHeld, unlessLarge, EdgesFound}
 use Rattle.points.proofs.PointLaws.{tails, heads, any-points, any-segments}
-use Rattle.drawing.proofs.CompleteLaws.{drawing-count, drawing-points}
+use Rattle.fewest.proofs.CompleteLaws.{drawing-count}
 
 -- the drawing of edges is that of their ends
 drawing-of-ends : (ys : List ℕ) (edges : List Edge) → drawingOf ys (edgesBetween (tails edges) (heads edges)) ≡ drawingOf ys edges
@@ -73,6 +74,11 @@ charted-by : (ys o o′ : List ℕ) (p p′ t t′ c c′ : ℕ) → o ≡ o′ 
     (done (record { rows = ys; order = o′; figures = record { points = p′; total = t′; crossings = c′ } }))
 charted-by ys o o′ p p′ t t′ c c′ a b d e = rw (a, b, d, e)
 
+-- a list put over the front of an array of 0s
+padded-over : (k : ℕ) (l : List ℕ) → l ++ drop (length l) (replicate k 0) ≡ padded k 0 l
+unfolding padded
+padded-over k l = ap (λ (rest : List ℕ). l ++ rest) (drop-zeros (length l) k)
+
 module _ (n : ℕ) (edges : List Edge) (rows : List ℕ) (sum : ℕ) (s : RowsGiven n edges rows sum) where
   low-at : (v : ℕ) → v < length (take n rows) → at (take n rows) v < maxPoints
   low-at v h =
@@ -112,25 +118,29 @@ module _ (n : ℕ) (edges : List Edge) (rows : List ℕ) (sum : ℕ) (s : RowsGi
     pub sizable : Sizable (take n rows) from to
     sizable = rw (ef, et) sizable-ends
 
-    module _ (points crossings : ℕ) (order : List ℕ) (p : PointsAre (take n rows) from to points order crossings) where
-      edges-of : edgesBetween from to ≡ edgesBetween (tails edges) (heads edges)
-      edges-of = rw (ef, et)
+    edges-of : edgesBetween from to ≡ edgesBetween (tails edges) (heads edges)
+    edges-of = rw (ef, et)
 
+    drawing-is : drawingOf (take n rows) (edgesBetween from to) ≡ drawingOf (take n rows) edges
+    drawing-is = ap (drawingOf (take n rows)) edges-of ∙ drawing-of-ends (take n rows) edges
+
+    module _ (points : ℕ) (p : points ≡ length (pointRows (take n rows) (edgesBetween from to))) where
       count-is : points ≡ pointCount (take n rows) edges
-      count-is = p .count ∙ ap (λ es. length (pointRows (take n rows) es)) edges-of ∙ ap length (any-points (take n rows) edges)
-
-      drawing-is : drawingOf (take n rows) (edgesBetween from to) ≡ drawingOf (take n rows) edges
-      drawing-is = ap (drawingOf (take n rows)) edges-of ∙ drawing-of-ends (take n rows) edges
+      count-is = p ∙ ap (λ es. length (pointRows (take n rows) es)) edges-of ∙ ap length (any-points (take n rows) edges)
 
       pub found-many : maxPoints < points → (f : ChartFound) → f ≡ noChart ManyPoints → EdgesFound n edges (take n rows) f
       found-many h f e =
           found-refused n edges _ f e (simp (lt-leb (pointCount (take n rows) edges) maxPoints (omega (arith, count-is))))
 
-      pub found-drawn : (height : ℕ) → height ≡ rowCount (take n rows) → points ≤ maxPoints → (array : List ℕ) → array ≡ padded maxPoints 0 (take points order)
+      -- with few enough points it can be drawn
+      pub drawable : points ≤ maxPoints → Drawable (take n rows) from to
+      drawable h = record { chart = sizable .chart; few-points = omega (arith, p); few-edges = sizable .few-edges; few-rows = sizable .few-rows }
+
+      pub found-drawn : (height : ℕ) → height ≡ rowCount (take n rows) → points ≤ maxPoints → (order : List ℕ) (crossings : ℕ)
+          → DrawnIs (drawingOf (take n rows) (edgesBetween from to)) (replicate maxPoints 0) order crossings
           → EdgesFound n edges (take n rows)
-          (record { verdict = Accepted; n = n; rows = rows; height = height; points = points; order = array; total = sum; crossings = crossings })
-      found-drawn height e h array same =
-          let d = p .drawn h in
+          (record { verdict = Accepted; n = n; rows = rows; height = height; points = points; order = order; total = sum; crossings = crossings })
+      found-drawn height e h order crossings d =
           record {
             says = says;
             whole = whole;
@@ -140,9 +150,8 @@ module _ (n : ℕ) (edges : List Edge) (rows : List ℕ) (sum : ℕ) (s : RowsGi
                       λ a.
                       record {
                         few-rows = omega (arith, s .long, s .fair .few-steps);
-                        few-points = omega (arith, array-long);
+                        few-points = omega (arith, order-long);
                         low-rows = s .low;
-                        low-points = low;
                       };
                 };
             best = λ a. s .best;
@@ -150,40 +159,33 @@ module _ (n : ℕ) (edges : List Edge) (rows : List ℕ) (sum : ℕ) (s : RowsGi
             tall = λ a. e;
           }
         where
-          all : length (flatten (drawingOf (take n rows) (edgesBetween from to) .order)) ≡ points
-          all = drawing-count (take n rows) (edgesBetween from to) ∙ sym (p .count)
+          drawn-order : List ℕ
+          drawn-order = flatten (drawingOf (take n rows) edges .order)
 
-          handed : take points order ≡ flatten (drawingOf (take n rows) (edgesBetween from to) .order)
-          handed = ap (λ k. take k order) (sym all) ∙ p .drawn h .order-is
+          all : length drawn-order ≡ points
+          all = drawing-count (take n rows) edges ∙ sym count-is
 
-          ordered : take points order ≡ flatten (drawingOf (take n rows) edges .order)
-          ordered = handed ∙ ap (λ (g : Drawing). flatten (g .order)) drawing-is
+          padded-order : order ≡ padded maxPoints 0 drawn-order
+          padded-order =
+              d .order-is ∙ ap (λ (g : Drawing). flatten (g .order) ++ drop (length (flatten (g .order))) (replicate maxPoints 0)) drawing-is
+              ∙ padded-over maxPoints drawn-order
 
-          front : take points array ≡ take points order
-          front =
-              ap (take points) same
-              ∙ ap (λ k. take k (padded maxPoints 0 (take points order))) (sym (length-take-le points order (omega (arith, p .drawn h .long))))
-              ∙ padded-front maxPoints 0 (take points order)
+          front : take points order ≡ drawn-order
+          front = ap (take points) padded-order ∙ ap (λ k. take k (padded maxPoints 0 drawn-order)) (sym all) ∙ padded-front maxPoints 0 drawn-order
 
-          array-long : length array ≡ maxPoints
-          array-long = ap length same ∙ padded-long maxPoints 0 (take points order) (omega (arith, length-take-le points order (omega (arith, p .drawn h .long))))
-
-          low : (i : ℕ) → i < points → at array i < maxPoints
-          low i l =
-              let e : at (take points array) i ≡ at array i = getD-take points array i 0 l in
-              let f = ap (λ t. at t i) (front ∙ handed) in
-              omega (arith, drawing-points (take n rows) (edgesBetween from to) i (omega (arith, p .count)), p .count)
+          order-long : length order ≡ maxPoints
+          order-long = ap length padded-order ∙ padded-long maxPoints 0 drawn-order (omega (arith, all))
 
           crossed : crossings ≡ drawingOf (take n rows) edges .crossings
-          crossed = p .drawn h .crossings-are ∙ ap (λ (g : Drawing). g .crossings) drawing-is
+          crossed = d .crossings-are ∙ ap (λ (g : Drawing). g .crossings) drawing-is
 
-          says : done (record { rows = take n rows; order = take points array; figures = record { points = points; total = sum; crossings = crossings } }) ≡ unlessLarge (take n rows) edges
+          says : done (record { rows = take n rows; order = take points order; figures = record { points = points; total = sum; crossings = crossings } }) ≡ unlessLarge (take n rows) edges
           says =
               simp (le-leb (pointCount (take n rows) edges) maxPoints (omega (arith, count-is)))
-              (charted-by (take n rows) _ _ _ _ _ _ _ _ (front ∙ ordered) count-is (s .summed) crossed)
+              (charted-by (take n rows) _ _ _ _ _ _ _ _ front count-is (s .summed) crossed)
 
-          whole : record { n = n; rows = rows; height = height; order = array; figures = record { points = points; total = sum; crossings = crossings } }
+          whole : record { n = n; rows = rows; height = height; order = order; figures = record { points = points; total = sum; crossings = crossings } }
               ≡ arraysOf (chartBy (unlessLarge (take n rows) edges))
           whole =
               simp (le-leb (pointCount (take n rows) edges) maxPoints (omega (arith, count-is)))
-              (arrays-same (sym (s .best .one-a-node)) (s .blank) e (same ∙ ap (padded maxPoints 0) ordered) count-is (s .summed) crossed)
+              (arrays-same (sym (s .best .one-a-node)) (s .blank) e padded-order count-is (s .summed) crossed)

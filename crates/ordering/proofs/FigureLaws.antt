@@ -19,17 +19,17 @@ use Rattle.outcome.specs.Refusal.{Outcome, done, refused, thenDo, demand, numbe
 use Rattle.outcome.proofs.ToldLaws.{number-some}
 use Rattle.table.specs.Table.{Contents, contentsOf, read}
 use Rattle.table.proofs.FairLaws.{read-fair}
-use Rattle.layering.specs.Calls.{rowsFound}
-use Rattle.layering.specs.Placed.{topRow, FairEdges}
-use Rattle.layering.proofs.PlaceLaws.{best-low}
+use Rattle.rows.specs.Answers.{rowsFound}
+use Rattle.rows.specs.Placed.{topRow, FairEdges}
+use Rattle.rows.proofs.PlacedLaws.{best-low}
 use Rattle.ordering.specs.declared.Figures.{Figures}
 use Rattle.points.specs.Points.{pointRows, segments, rowCount}
-use Rattle.drawing.specs.Fewest.{bestOrder, drawingOf}
+use Rattle.fewest.specs.Fewest.{bestOrder, drawingOf}
 use Rattle.ordering.specs.Calls.{Placing, Charted, ChartEnd, pointCount, unlessMany, chartOfTable, charted, chartOut, figuresNumbers, filled, chartEnd, chartCall, DrawnBest, ChartBest}
 use Rattle.ordering.specs.Charting.{Small}
 use Rattle.points.proofs.PointLaws.{points-length, segments-length}
 use Rattle.crossings.proofs.CrossingsLaws.{crossings-most}
-use Rattle.drawing.proofs.FewestLaws.{best-crossings}
+use Rattle.fewest.proofs.FewestLaws.{best-crossings}
 
 -- Each edge has one segment more than dummies, so there are fewer segments than points and edges together, and twice the crossings are
 -- at most the square of that number.

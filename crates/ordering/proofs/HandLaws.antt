@@ -17,7 +17,7 @@ use Rattle.outcome.specs.declared.Verdict.the-variants.{Accepted}
 use Rattle.outcome.specs.declared.Verdict as verdict
 use Rattle.outcome.specs.Refusal.{Outcome, done, refused, numbersOf, refusalIn}
 use Rattle.outcome.proofs.ToldLaws.{number-some}
-use Rattle.layering.specs.Placed.{outcomeBy}
+use Rattle.rows.specs.Placed.{outcomeBy}
 use Rattle.ordering.specs.declared.ChartAnswer.{ChartAnswer}
 use Rattle.ordering.specs.declared.ChartAnswer.the-variants.{Drawn, Refused}
 use Rattle.ordering.specs.declared.types.ChartFound.{ChartFound}

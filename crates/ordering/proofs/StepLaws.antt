@@ -15,8 +15,8 @@ use Rattle.table.proofs.FairLaws.{read-fair}
 use Rattle.table.proofs.RangeLaws.{read-range}
 use Rattle.outcome.proofs.ToldLaws.{numbers-same, number-some}
 use Rattle.outcome.proofs.ToldLaws.{alone}
-use Rattle.layering.specs.Calls.{rowsFound}
-use Rattle.layering.proofs.StepLaws.{StepLow, never, same, demand-step, found-step}
+use Rattle.rows.specs.Answers.{rowsFound}
+use Rattle.rows.proofs.StepLaws.{StepLow, never, same, demand-step, found-step}
 use Rattle.ordering.specs.Calls.{Placing, Charted, ChartEnd, pointCount, unlessMany, chartOfTable, charted, chartOut, figuresNumbers, filled, chartEnd, chartCall}
 
 pub chart-of-step : (bytes : List ℕ) {f : Refusal} → chartOfTable bytes ≡ refused f → StepLow f

@@ -15,14 +15,14 @@ use Rattle.outcome.specs.Refusal.{Outcome, done, refused, thenDo, demand, numbe
 use Rattle.table.specs.Table.{Contents, contentsOf, read}
 use Rattle.table.specs.Calls.{readCall}
 use Rattle.buffers.specs.Padded.{padded}
-use Rattle.layering.specs.Calls.{rowsFound}
+use Rattle.rows.specs.Answers.{rowsFound}
 use Rattle.ordering.specs.declared.Figures.{Figures}
 use Rattle.ordering.specs.declared.ChartAnswer.{ChartAnswer}
 use Rattle.ordering.specs.declared.ChartAnswer.the-variants.{Drawn, Refused}
 use Rattle.ordering.specs.declared.types.ChartFound.{ChartFound}
 use Rattle.ordering.specs.declared.types.TableChart.{TableChart}
 use Rattle.points.specs.Points.{pointRows, rowCount}
-use Rattle.drawing.specs.Fewest.{drawingOf}
+use Rattle.fewest.specs.Fewest.{drawingOf}
 
 -- ---- the chart of a table
 

@@ -14,15 +14,13 @@ use Rattle.points.specs.Limits.{maxPoints}
 use Rattle.outcome.specs.Refusal.{Outcome, done, demand}
 use Rattle.table.specs.Table.{contentsOf, read}
 use Rattle.buffers.specs.Padded.{padded}
-use Rattle.layering.specs.Placed.{outcomeBy, topRow, FairEdges}
+use Rattle.rows.specs.Placed.{outcomeBy, topRow, FairEdges}
 use Rattle.ordering.specs.declared.Figures.{Figures}
 use Rattle.ordering.specs.declared.ChartAnswer.{ChartAnswer}
 use Rattle.ordering.specs.declared.types.ChartFound.{ChartFound}
-use Rattle.points.specs.Points.{pointRows, rowCount}
-use Rattle.drawing.specs.Fewest.{drawingOf}
+use Rattle.points.specs.Points.{rowCount}
 use Rattle.buffers.specs.Lists.{Below}
-use Rattle.points.specs.Laying.{edgesBetween, Chart}
-use Rattle.drawing.specs.Drawing.{DrawnIs}
+use Rattle.points.specs.Laying.{Chart}
 use Rattle.ordering.specs.Calls.{pointCount, Charted, charted, chartOut, chartOfTable, chartEnd, chartNumbers, chartBy, arraysOf, arraysIn}
 
 -- the first m entries of two arrays are the ends of the first m edges
@@ -37,11 +35,6 @@ pub record Sizable (ys from to : List ℕ) : Type 0 where
   pub chart : Chart ys from to
   pub few-edges : length from ≤ maxEdges
   pub few-rows : Below maxPoints ys
-
--- the number of its points, and where that is not too large, its drawing
-pub record PointsAre (ys from to : List ℕ) (points : ℕ) (order : List ℕ) (crossings : ℕ) : Type 0 where
-  pub count : points ≡ length (pointRows ys (edgesBetween from to))
-  pub drawn : points ≤ maxPoints → DrawnIs (drawingOf ys (edgesBetween from to)) order crossings
 
 -- best rows of fair edges, in the first n entries of an array whose others are 0, and their total
 pub record RowsGiven (n : ℕ) (edges : List Edge) (rows : List ℕ) (sum : ℕ) : Type 0 where
@@ -79,12 +72,11 @@ chartedBy f =
 abbrev pub heldChart : ChartFound → Outcome Charted
 heldChart f = outcomeBy (f .verdict) (chartedBy f)
 
--- what can be handed out: the entries are there, and each fits a buffer's
+-- what can be handed out: the entries are there, and each row fits a buffer's
 pub record Storable (f : ChartFound) : Type 0 where
   pub few-rows : f .n ≤ length (f .rows)
   pub few-points : f .points ≤ length (f .order)
   pub low-rows : (v : ℕ) → v < f .n → at (f .rows) v ≤ topRow
-  pub low-points : (i : ℕ) → i < f .points → at (f .order) i < maxPoints
 
 pub record Handable (f : ChartFound) : Type 0 where
   pub storable : f .verdict ≡ Accepted → Storable f

@@ -13,21 +13,12 @@ ghost use mathlib.Core.Path.{_≡_};
 ghost use Prim.Native.Nat.{_≤_};
 ghost use lib.ListN.{length, take};
 ghost use Rattle.table.specs.Limits.{maxEdges};
-ghost use Rattle.points.specs.Limits.{maxPoints};
-ghost use Rattle.buffers.specs.Padded.{padded};
-ghost use Rattle.ordering.specs.Charting.{Split, Sizable, PointsAre, RowsGiven, noChart, EdgesFound};
+ghost use Rattle.ordering.specs.Charting.{Split, RowsGiven, noChart, EdgesFound};
 
 // The ends of edges, one array an end.
 pub struct EdgeEnds {
     pub from: [usize; MAX_EDGES],
     pub to: [usize; MAX_EDGES],
-}
-
-// How many points there are and, where these are not too many, an order of them and its crossings.
-pub struct PointsDrawn {
-    pub points: usize,
-    pub order: [usize; MAX_POINTS],
-    pub crossings: usize,
 }
 
 // A refusal, with a blank chart.
@@ -46,7 +37,8 @@ pub fn refuse_chart(f: Refusal) -> ChartFound
     }
 }
 
-// The chart of the first m edges of an array, between n steps in their best rows.
+// The chart of the first m edges of an array, between n steps in their best rows. The points are counted first, since only so many can be
+// drawn.
 pub fn draw_edges(
     edges: [Edge; MAX_EDGES],
     m: usize,
@@ -61,35 +53,23 @@ pub fn draw_edges(
     let ends = split_ends(edges, m);
     let from = ends.from;
     let to = ends.to;
-    let drawn = draw_ends(&rows[..n], &from[..m], &to[..m]);
-    if MAX_POINTS < drawn.points {
+    let points = count_points(&rows[..n], &from[..m], &to[..m]);
+    if MAX_POINTS < points {
         return refuse_chart(Refusal::ManyPoints);
     }
     let height = count_rows(&rows[..n]);
-    let found = drawn.order;
-    let order = copy_points(&found, drawn.points);
+    let mut order = [0u16; MAX_POINTS];
+    let crossings = draw_points(&rows[..n], &from[..m], &to[..m], points, &mut order);
     ChartFound {
         verdict: Verdict::Accepted,
         n: n,
         rows: rows,
         height: height,
-        points: drawn.points,
+        points: points,
         order: order,
         total: total,
-        crossings: drawn.crossings,
+        crossings: crossings,
     }
-}
-
-// The first points of a list in an array, whose others are 0.
-fn copy_points(list: &[usize], points: usize) -> [usize; MAX_POINTS]
-    requires { ⌜ (points ≤ length (now list)) × (points ≤ maxPoints) ⌝ }
-    ensures { λ r. ⌜ r ≡ padded maxPoints 0 (take points (now (list .entry))) ⌝ }
-{
-    let mut array = [0usize; MAX_POINTS];
-    for i in 0..points {
-        array[i] = list[i];
-    }
-    array
 }
 
 // The ends of the first m edges.
@@ -105,26 +85,4 @@ fn split_ends(edges: [Edge; MAX_EDGES], m: usize) -> EdgeEnds
         to[i] = e.to;
     }
     EdgeEnds { from: from, to: to }
-}
-
-// The points are counted first, since only so many can be drawn.
-fn draw_ends(rows: &[usize], from: &[usize], to: &[usize]) -> PointsDrawn
-    requires { ⌜ Sizable (now rows) (now from) (now to) ⌝ }
-    ensures { λ r. ⌜ PointsAre (now (rows .entry)) (now (from .entry)) (now (to .entry)) (r .points) (r .order) (r .crossings) ⌝ }
-{
-    let points = count_points(rows, from, to);
-    if MAX_POINTS < points {
-        return PointsDrawn {
-            points: points,
-            order: [0; MAX_POINTS],
-            crossings: 0,
-        };
-    }
-    let drawn = draw_points(rows, from, to);
-    let order = drawn.order;
-    PointsDrawn {
-        points: points,
-        order: order,
-        crossings: drawn.crossings,
-    }
 }

@@ -11,7 +11,7 @@ pub struct ChartFound {
     pub rows: [usize; MAX_STEPS],
     pub height: usize,
     pub points: usize,
-    pub order: [usize; MAX_POINTS],
+    pub order: [u16; MAX_POINTS],
     pub total: usize,
     pub crossings: usize,
 }

@@ -7,3 +7,5 @@ pub mod PositionLaws
 pub mod RankedLaws
 pub mod StartLaws
 pub mod OnceLaws
+pub mod BackLaws
+pub mod RowListLaws

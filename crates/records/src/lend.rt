@@ -1,12 +1,13 @@
 // Edges of an array, lent as a slice of records.
+use edgelist::find_rows_of_records;
 use graph::Edge;
-use layering::find_rows_of_records;
-use layering::types::Row;
-use layering::types::RowsAnswer;
+use rows::types::Row;
+use rows::types::RowsAnswer;
 ghost use mathlib.Core.Path.{_≡_};
 ghost use Prim.Native.Nat.{_≤_};
 ghost use lib.ListN.{take};
-ghost use Rattle.layering.specs.Calls.{rowsNumbers, recordCall, RecordsBest};
+ghost use Rattle.rows.specs.Answers.{rowsNumbers};
+ghost use Rattle.edgelist.specs.Calls.{recordCall, RecordsBest};
 ghost use Rattle.records.specs.Input.{maxLent};
 
 // More than the row finder takes, so that it is seen to refuse a list that is too long.

@@ -9,13 +9,14 @@ use crate::input::limit_count;
 use crate::input::read_edges;
 use crate::input::word_at;
 use crate::lend::find_lent;
-use layering::types::Row;
-use layering::types::RowsAnswer;
 use libc::STDIN_FILENO;
 use libc::STDOUT_FILENO;
 use outcome::Refusal;
+use rows::types::Row;
+use rows::types::RowsAnswer;
 ghost use mathlib.Core.Path.{_≡_};
-ghost use Rattle.layering.specs.Calls.{rowsNumbers, recordCall, RecordsBest};
+ghost use Rattle.rows.specs.Answers.{rowsNumbers};
+ghost use Rattle.edgelist.specs.Calls.{recordCall, RecordsBest};
 ghost use Rattle.records.specs.Input.{stepsIn, edgesIn};
 
 // The most entries of a buffer that can be lent.

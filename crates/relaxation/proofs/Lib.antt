@@ -1,5 +1,4 @@
 -- Why it holds, by subject.
-pub mod IndexLaws
 pub mod EdgesLaws
 pub mod RelaxLaws
 pub mod SweepLaws

@@ -1,4 +1,3 @@
-mod FitLaws
 mod ThenLaws
 pub mod NumberLaws
 pub mod ManyLaws
@@ -11,7 +10,5 @@ pub mod FairLaws
 pub mod WholeReadLaws
 pub mod ArrayLaws
 pub mod AnswerLaws
-pub mod StarredLaws
 pub mod RangeLaws
 pub mod PrefixLaws
-pub mod CallLaws

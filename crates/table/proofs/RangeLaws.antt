@@ -1,20 +1,17 @@
--- Which refusals the reader gives: those numbered 1 to 10, and for the name of a step 14 too.
-use mathlib.Core.Path.{_≡_, refl, subst}
+-- Which refusals the reader gives: those numbered 1 to 10.
+use mathlib.Core.Path.{_≡_, subst}
 use mathlib.Core.Bool.{Bool, true, false, not, _&&_, cond}
 use mathlib.Core.List.{List}
-use mathlib.Core.Logic.{_⊎_, inl, inr, ⊎-elim}
 use Prim.Native.Nat.{ℕ, zero, suc, _-_, _≤_}
 use native.Mathlib.Omega.{arith}
 use lib.Dec.{leb, ltb, eqb}
-use lib.ListN.{length, getD}
+use lib.ListN.{length}
 use Rattle.outcome.specs.declared.Refusal.{Refusal}
-use Rattle.outcome.specs.declared.Refusal.the-variants.{BadEdition, ManySteps, BadKind, OutOfRange, BadNameByte, ManyEdges, BadEnd, Spare, NoStep, Overlong}
+use Rattle.outcome.specs.declared.Refusal.the-variants.{BadEdition, ManySteps, BadKind, OutOfRange, BadNameByte, ManyEdges, BadEnd, Spare, Overlong}
 use Rattle.table.specs.Limits.{minNameByte, maxNameByte}
-use Rattle.outcome.specs.Refusal.{Outcome, done, refused, thenDo, demand, numberOf, stepOf}
+use Rattle.outcome.specs.Refusal.{refused, numberOf}
 use Rattle.table.specs.Number.{Read, got, fault, andThen, judge, byteAt, numberAt, numberIn, many, counted}
 use Rattle.table.specs.Table.{Contents, adjustAt, waitAt, kindAt, nameByteAt, nameAt, namedAt, stepAt, endAt, edgeBetween, edgeAt, stepsAt, edgesAt, listsAt, tableAt, outcome, read}
-use Rattle.table.specs.Calls.{Stretch, noStep, nameOf, nameFound}
-use Rattle.outcome.proofs.ToldLaws.{alone}
 
 -- a fault of the reader's own
 abbrev Own : {A : Type 0} → Read A → Type 0
@@ -97,21 +94,3 @@ read-range s {f} e = go (tableAt s 0) (own-table s) e
     go : (x : Read Contents) → Own x → outcome x ≡ refused f → numberOf f ≤ 10
     go (got c p) h e = let z : _≡_ {A = ℕ} 0 1 = cc in absurd (omega arith)
     go (fault r) h e = let k : r ≡ f = cc in subst (λ x. numberOf x ≤ 10) k h
-
--- and the name call by these or 14
-pub name-range : (s : List ℕ) (i : ℕ) {f : Refusal} → nameFound s i ≡ refused f → (numberOf f ≤ 10) ⊎ (numberOf f ≡ 14)
-unfolding nameFound
-name-range s i {f} e = go (read s) refl e
-  where
-    test : (b : Bool) (x : Stretch) → demand b NoStep (done x) ≡ refused f → (numberOf f ≤ 10) ⊎ (numberOf f ≡ 14)
-    test true x e = let z : _≡_ {A = ℕ} 0 1 = cc in absurd (omega arith)
-    test false x e = let k : NoStep ≡ f = cc in inr (subst (λ x. numberOf x ≡ 14) k refl)
-
-    go : (o : Outcome Contents) → read s ≡ o
-        → thenDo o (λ t. demand (ltb i (length (t .steps))) NoStep (done (nameOf (getD (t .steps) i noStep)))) ≡ refused f → (numberOf f ≤ 10) ⊎ (numberOf f ≡ 14)
-    go (done t) r e = test (ltb i (length (t .steps))) _ e
-    go (refused g) r e = let k : g ≡ f = cc in inl (subst (λ x. numberOf x ≤ 10) k (read-range s r))
-
--- so that no step comes with them
-pub name-alone : (s : List ℕ) (i : ℕ) (f : Refusal) → nameFound s i ≡ refused f → stepOf f ≡ 0
-name-alone s i f e = ⊎-elim (λ l. alone f (λ k. omega arith)) (λ l. alone f (λ k. omega arith)) (name-range s i e)

@@ -1,5 +1,5 @@
--- The starred cases of document 01 that the reader alone decides.
-use mathlib.Core.List.{List, [], _∷_}
+-- How the layers write the starred cases of document 01 down.
+use mathlib.Core.List.{List}
 use Prim.Native.Nat.{ℕ}
 use Rattle.table.specs.Hex.{hex}
 
@@ -14,17 +14,3 @@ case input expected = record { input = input; expected = expected }
 -- the sample table of document 01
 abbrev pub sample : List ℕ
 sample = hex "01 04 02 1E 04 77 61 72 6D 00 04 6C 6F 63 6B 00 05 73 77 65 65 70 01 32 05 6C 65 76 65 6C 04 00 01 01 01 01 02 02 03 00 03 01 01 03 02 01 05"
-
--- with each table the numbers of the counts call
-abbrev pub starredCounts : List Case
-starredCounts =
-    case (hex "01 00 00") (0 ∷ 0 ∷ 0 ∷ []) ∷
-    case (hex "81 00 00 00") (0 ∷ 0 ∷ 0 ∷ []) ∷
-    case (hex "") (1 ∷ []) ∷
-    case (hex "02") (3 ∷ []) ∷
-    case (hex "80 80 80") (2 ∷ []) ∷
-    case (hex "01 40") (1 ∷ []) ∷
-    case (hex "01 41") (4 ∷ []) ∷
-    case (hex "01 00 00 00") (10 ∷ []) ∷
-    case (hex "01 01 00 01 41 01 00 00") (9 ∷ []) ∷
-    []

@@ -2,7 +2,6 @@
 use crate::limits::MAX_EDGES;
 use crate::limits::MAX_STEPS;
 use graph::Edge;
-use outcome::Refusal;
 use outcome::Verdict;
 
 // What a step is, with the number that its kind carries: hundredths of a dB for an adjustment, minutes for a wait.
@@ -31,20 +30,4 @@ pub struct Table {
 pub struct TableRead {
     pub verdict: Verdict,
     pub table: Table,
-}
-
-pub struct Counts {
-    pub steps: usize,
-    pub edges: usize,
-}
-
-pub enum CountsAnswer {
-    Counted(Counts),
-    Refused(Refusal),
-}
-
-// Where the name of a step stands in the table: its start and its length.
-pub enum NameAnswer {
-    At(usize, usize),
-    Refused(Refusal),
 }

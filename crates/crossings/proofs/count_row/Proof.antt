@@ -7,9 +7,9 @@ use Rattle.crossings.proofs.CountLaws as laws
 use Rattle.crossings.proofs.count_row.Statement.{statement}
 use Rattle.crossings.proofs.count_row.Tie as tie
 
--- the start, from where all numbers are read
-abbrev start : tie.After-shared-slice-known9 → tie.Start
-start c = c .before .before .before .before .before .before .before .before .before .before .before .before
+-- the start, from where both rows are seen to have points enough
+abbrev start : tie.Else2 → tie.Start
+start c = c .before .before .before .before .before .before .before .before .before .before .before .before .before
 
 mul-a : tie.Need-mul-a
 mul-a c = search needs
@@ -42,7 +42,12 @@ shared-slice-read-e : tie.Need-shared-slice-read-e
 shared-slice-read-e c = search needs
 
 sub-n : tie.Need-sub-n
-sub-n c = let s = start c .pre in laws.ends-rise (s .0) _ (s .1)
+sub-n c = let s = c .before .before .before .before .before .before .before .before .before .before .before .before .pre in laws.ends-rise (s .0) _ (s .1)
+
+returns-2 : tie.Need-returns-2
+returns-2 c =
+    let s = c .before .before .before .before .before .before .before .before .before .before .before .before .before .pre in
+    laws.row-narrow (s .0) _ (s .1) (c .if2 .taken)
 
 add-m : tie.Need-add-m
 add-m c = let s = start c .pre in omega (arith, laws.blocks-room (s .0) _ (s .1))
@@ -83,8 +88,8 @@ same-length c = search needs
 same-length-2 : tie.Need-same-length-2
 same-length-2 c = search needs
 
-returns-2 : tie.Need-returns-2
-returns-2 c =
+returns-3 : tie.Need-returns-3
+returns-3 c =
     let after = c .before .before .before .before in
     laws.row-counted (start (after .before .before .before .before) .pre .1) (after .count-between .ensures)
 
@@ -103,6 +108,7 @@ count-row-spec =
     mul-e
     shared-slice-read-e
     sub-n
+    returns-2
     add-m
     mul-points
     sub-points
@@ -115,4 +121,4 @@ count-row-spec =
     count-between-requires
     same-length
     same-length-2
-    returns-2)
+    returns-3)

@@ -1,10 +1,8 @@
 -- Either answer of `find_name` makes its word: a name is short, and no refusal of the call has a step.
 use native.Mathlib.Omega.{arith}
 use mathlib.Core.Path.{sym, ap, _∙_}
-use Rattle.table.specs.Calls.{nameNumbers}
-use Rattle.table.proofs.AnswerLaws.{answer-found, answer-refused}
-use Rattle.table.proofs.RangeLaws.{name-alone}
-use Rattle.table.proofs.CallLaws.{name-low}
+use Rattle.queries.specs.Calls.{nameNumbers}
+use Rattle.queries.proofs.NameLaws.{answer-found, answer-refused, name-alone, name-low}
 use Rattle.host.proofs.WordLaws.{name-refused, name-told}
 use borrow.Author.Needs.{needs}
 use Rattle.host.proofs.yuvatondro_name.Statement.{statement}

@@ -1,8 +1,8 @@
 -- Either answer makes its word: 0, or a refusal, whose step is low.
 use native.Mathlib.Omega.{arith}
 use mathlib.Core.Path.{sym, ap, _∙_}
-use Rattle.layering.specs.Calls.{rowsNumbers}
-use Rattle.layering.proofs.StepLaws.{record-call-step}
+use Rattle.rows.specs.Answers.{rowsNumbers}
+use Rattle.edgelist.proofs.StepLaws.{record-call-step}
 use Rattle.host.proofs.WordLaws.{done-refused, done-told, same-told}
 use borrow.Author.Needs.{needs}
 use Rattle.host.proofs.yuvatondro_records.Statement.{statement}

@@ -1,7 +1,8 @@
 -- A refused table leaves the buffer; the flat arrays of an accepted one hold its edges, which are fair, and what is found is handed out.
 use denote.Ref.{now}
 use Rattle.table.proofs.AnswerLaws.{read-refused, read-accepted}
-use Rattle.layering.proofs.FlattenLaws.{flattened-full, flattened-fair, flattened-placed}
+use Rattle.flatten.proofs.FlattenLaws.{flattened-full}
+use Rattle.ranking.proofs.PlaceLaws.{flattened-fair, flattened-placed}
 use Rattle.layering.proofs.CallLaws.{table-count, table-few, table-long, table-fair, table-placed, refused-call, table-call}
 use borrow.Author.Needs.{needs}
 use Rattle.layering.proofs.find_rows.Statement.{statement}

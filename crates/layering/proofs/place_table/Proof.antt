@@ -2,8 +2,9 @@
 use mathlib.Core.Path.{ap}
 use Rattle.table.specs.Calls.{ReadEnd}
 use Rattle.table.proofs.AnswerLaws.{read-refused, read-accepted}
-use Rattle.layering.proofs.FlattenLaws.{flattened-full, flattened-fair, flattened-placed}
-use Rattle.layering.proofs.PlaceLaws.{placed-refused}
+use Rattle.flatten.proofs.FlattenLaws.{flattened-full}
+use Rattle.ranking.proofs.PlaceLaws.{flattened-fair, flattened-placed}
+use Rattle.rows.proofs.PlacedLaws.{placed-refused}
 use Rattle.layering.proofs.CallLaws.{table-few, table-long, table-fair, table-placed, table-refused, table-end}
 use borrow.Author.Needs.{needs}
 use Rattle.layering.proofs.place_table.Statement.{statement}

@@ -18,13 +18,19 @@ enum-told : tie.Need-enum-told
 enum-told c = search needs
 
 draw-edges-requires : tie.Need-draw-edges-requires
-draw-edges-requires c κs = let p = c .before .before .before .before .before .before .place-table in let same = table-here _ (p .result) (p .ensures .0) (p .ensures .1) in let placed = table-found _ (p .result) (p .ensures .0) (p .ensures .1) in let a = c .before .before .enum-told .given .1 in let t = taken _ _ _ same placed a in (table-solved _ _ _ same placed a t, (table-few _ _ _ same placed a t, table-long _ _ _ same placed a t))
+draw-edges-requires c κs =
+    let after-place-table = c .before .before .before .before .before .before in
+    let p = after-place-table .place-table in let same = table-here _ (p .result) (p .ensures .0) (p .ensures .1) in let placed = table-found _ (p .result) (p .ensures .0) (p .ensures .1) in let a = c .before .before .enum-told .given .1 in let t = taken _ _ _ same placed a in (table-solved _ _ _ same placed a t, (table-few _ _ _ same placed a t, table-long _ _ _ same placed a t))
 
 returns : tie.Need-returns
-returns c = let p = c .before .before .before .before .before .before .place-table in let same = table-here _ (p .result) (p .ensures .0) (p .ensures .1) in let placed = table-found _ (p .result) (p .ensures .0) (p .ensures .1) in let found = table-refused _ _ _ same placed (c .before .before .verdict .given .1) _ (c .refuse-chart .ensures) in (chart-end _ _ same found, found)
+returns c =
+    let after-place-table = c .before .before .before .before .before .before in
+    let p = after-place-table .place-table in let same = table-here _ (p .result) (p .ensures .0) (p .ensures .1) in let placed = table-found _ (p .result) (p .ensures .0) (p .ensures .1) in let found = table-refused _ _ _ same placed (c .before .before .verdict .given .1) _ (c .refuse-chart .ensures) in (chart-end _ _ same found, found)
 
 returns-2 : tie.Need-returns-2
-returns-2 c = let p = c .before .before .before .before .before .before .before .place-table in let same = table-here _ (p .result) (p .ensures .0) (p .ensures .1) in let placed = table-found _ (p .result) (p .ensures .0) (p .ensures .1) in let a = c .before .before .before .enum-told .given .1 in let found = table-drawn _ _ _ same placed a (taken _ _ _ same placed a) _ (c .draw-edges .ensures) in (chart-end _ _ same found, found)
+returns-2 c =
+    let after-place-table = c .before .before .before .before .before .before .before in
+    let p = after-place-table .place-table in let same = table-here _ (p .result) (p .ensures .0) (p .ensures .1) in let placed = table-found _ (p .result) (p .ensures .0) (p .ensures .1) in let a = c .before .before .before .enum-told .given .1 in let found = table-drawn _ _ _ same placed a (taken _ _ _ same placed a) _ (c .draw-edges .ensures) in (chart-end _ _ same found, found)
 
 pub chart-table-spec : {M : Type 1} → statement M
 chart-table-spec =

@@ -37,7 +37,9 @@ shared-slice-read-place-row-2 : tie.Need-shared-slice-read-place-row-2 Inv-loop 
 shared-slice-read-place-row-2 c = omega (arith, c .before .before .before .before .before .before .before .pre .ranked .first-long)
 
 place-row-requires : tie.Need-place-row-requires Inv-loop μ-loop
-place-row-requires c κs = let l = c .before .before .before .loop-test .taken in (laws.starts-rise (c .before .before .before .before .before .before .before .before .pre) l, (laws.ends-within (c .before .before .before .before .before .before .before .before .pre) l, laws.points-within (c .before .before .before .before .before .before .before .before .pre) l (c .before .before .before .before .loop .pos) (c .before .before .before .before .loop .inv .1)))
+place-row-requires c κs =
+    let start = c .before .before .before .before .before .before .before .before in
+    let l = c .before .before .before .loop-test .taken in (laws.starts-rise (start .pre) l, (laws.ends-within (start .pre) l, laws.points-within (start .pre) l (c .before .before .before .before .loop .pos) (c .before .before .before .before .loop .inv .1)))
 
 add-r : tie.Need-add-r Inv-loop μ-loop
 add-r c = omega (arith, c .before .before .before .before .before .before .before .before .before .before .before .pre .ranked .first-long)
@@ -46,7 +48,11 @@ loop-less : tie.Need-loop-less Inv-loop μ-loop
 loop-less c = omega (arith, c .before .before .before .before .before .before .before .before .before .before .before .pre .ranked .first-long)
 
 loop-again : tie.Need-loop-again Inv-loop μ-loop
-loop-again c = (laws.placed-turn (c .before .before .before .before .before .before .before .before .before .before .before .pre) (c .before .before .before .before .before .before .loop-test .taken) (c .before .before .before .before .before .before .before .loop .inv .1) (c .before .before .before .before .before .before .before .loop .inv .0) (c .before .before .place-row .ensures), omega arith, omega arith)
+loop-again c =
+    let in-loop = c .before .before .before .before .before .before in
+    let at-loop = in-loop .before in
+    let start = at-loop .before .before .before .before in
+    (laws.placed-turn (start .pre) (in-loop .loop-test .taken) (at-loop .loop .inv .1) (at-loop .loop .inv .0) (c .before .before .place-row .ensures), omega arith, omega arith)
 
 same-length : tie.Need-same-length Inv-loop μ-loop
 same-length c = omega arith

@@ -3,7 +3,7 @@ use native.Mathlib.Omega.{arith}
 use lib.ListN.{length}
 use denote.Ref.{now}
 use Rattle.graph.specs.Rows.{at}
-use Rattle.relaxation.proofs.IndexLaws.{offset, under}
+use Rattle.buffers.proofs.IndexLaws.{offset, inside-more}
 use Rattle.augment.proofs.TreeLaws as laws
 use borrow.Author.Needs.{needs}
 use Rattle.augment.proofs.open.head_miss_at.Statement.{statement}
@@ -29,15 +29,15 @@ mul-head-miss c =
     let s = c .before .before .before .before .before .before .before .before .before in
     let a = s .args in
     let t = at (now (a .to)) (a .i) in
-    offset t (length (now (a .rank)))
-    (under t (a .n) (length (now (a .rank))) (s .pre .0 .to-in (a .i) (s .pre .1 .1 .1 .1 .1 .1 .1)) (s .pre .1 .1 .0))
+    offset t (length (now (a .rank))) 8
+    (inside-more t (a .n) (length (now (a .rank))) (s .pre .0 .to-in (a .i) (s .pre .1 .1 .1 .1 .1 .1 .1)) (s .pre .1 .1 .0))
     (s .good .1 .1 .1 .1 .1 .1 .0 .1)
 
 shared-slice-read-head-miss : tie.Need-shared-slice-read-head-miss
 shared-slice-read-head-miss c =
     let s = c .before .before .before .before .before .before .before .before .before .before in
     let a = s .args in
-    under (at (now (a .to)) (a .i)) (a .n) (length (now (a .rank))) (s .pre .0 .to-in (a .i) (s .pre .1 .1 .1 .1 .1 .1 .1))
+    inside-more (at (now (a .to)) (a .i)) (a .n) (length (now (a .rank))) (s .pre .0 .to-in (a .i) (s .pre .1 .1 .1 .1 .1 .1 .1))
     (s .pre .1 .1 .0)
 
 mul-head-miss-2 : tie.Need-mul-head-miss-2
@@ -57,15 +57,15 @@ mul-head-miss-4 c =
     let s = c .before .before .before .before .before .before .before .before .before .before .before .before in
     let a = s .args in
     let t = at (now (a .to)) (a .i) in
-    offset t (length (now (a .y)))
-    (under t (a .n) (length (now (a .y))) (s .pre .0 .to-in (a .i) (s .pre .1 .1 .1 .1 .1 .1 .1)) (s .pre .1 .0))
+    offset t (length (now (a .y))) 8
+    (inside-more t (a .n) (length (now (a .y))) (s .pre .0 .to-in (a .i) (s .pre .1 .1 .1 .1 .1 .1 .1)) (s .pre .1 .0))
     (s .good .1 .1 .1 .1 .1 .0 .1)
 
 shared-slice-read-head-miss-4 : tie.Need-shared-slice-read-head-miss-4
 shared-slice-read-head-miss-4 c =
     let s = c .before .before .before .before .before .before .before .before .before .before .before .before .before in
     let a = s .args in
-    under (at (now (a .to)) (a .i)) (a .n) (length (now (a .y))) (s .pre .0 .to-in (a .i) (s .pre .1 .1 .1 .1 .1 .1 .1)) (s .pre .1 .0)
+    inside-more (at (now (a .to)) (a .i)) (a .n) (length (now (a .y))) (s .pre .0 .to-in (a .i) (s .pre .1 .1 .1 .1 .1 .1 .1)) (s .pre .1 .0)
 
 head-miss-requires : tie.Need-head-miss-requires
 head-miss-requires c κs =

@@ -1,5 +1,5 @@
 use native.Mathlib.Omega.{arith}
-use Rattle.relaxation.proofs.IndexLaws.{positive}
+use Rattle.buffers.proofs.IndexLaws.{positive}
 use borrow.Author.Needs.{needs}
 use Rattle.augment.proofs.open.open_node.Statement.{statement}
 use Rattle.augment.proofs.open.open_node.Tie as tie

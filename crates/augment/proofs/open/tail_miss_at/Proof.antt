@@ -2,7 +2,7 @@ use native.Mathlib.Omega.{arith}
 use lib.ListN.{length}
 use denote.Ref.{now}
 use Rattle.graph.specs.Rows.{at}
-use Rattle.relaxation.proofs.IndexLaws.{offset, under}
+use Rattle.buffers.proofs.IndexLaws.{offset, inside-more}
 use Rattle.augment.proofs.TreeLaws as laws
 use borrow.Author.Needs.{needs}
 use Rattle.augment.proofs.open.tail_miss_at.Statement.{statement}
@@ -28,15 +28,15 @@ mul-tail-miss c =
     let s = c .before .before .before .before .before .before .before .before .before in
     let a = s .args in
     let f = at (now (a .from)) (a .i) in
-    offset f (length (now (a .rank)))
-    (under f (a .n) (length (now (a .rank))) (s .pre .0 .from-in (a .i) (s .pre .1 .1 .1 .1 .1 .1 .1)) (s .pre .1 .1 .0))
+    offset f (length (now (a .rank))) 8
+    (inside-more f (a .n) (length (now (a .rank))) (s .pre .0 .from-in (a .i) (s .pre .1 .1 .1 .1 .1 .1 .1)) (s .pre .1 .1 .0))
     (s .good .1 .1 .1 .1 .1 .1 .0 .1)
 
 shared-slice-read-tail-miss : tie.Need-shared-slice-read-tail-miss
 shared-slice-read-tail-miss c =
     let s = c .before .before .before .before .before .before .before .before .before .before in
     let a = s .args in
-    under (at (now (a .from)) (a .i)) (a .n) (length (now (a .rank))) (s .pre .0 .from-in (a .i) (s .pre .1 .1 .1 .1 .1 .1 .1))
+    inside-more (at (now (a .from)) (a .i)) (a .n) (length (now (a .rank))) (s .pre .0 .from-in (a .i) (s .pre .1 .1 .1 .1 .1 .1 .1))
     (s .pre .1 .1 .0)
 
 mul-tail-miss-2 : tie.Need-mul-tail-miss-2

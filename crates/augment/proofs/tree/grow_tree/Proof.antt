@@ -1,8 +1,10 @@
 use mathlib.Core.Path.{_≡_, refl, _∙_}
+use lib.Dec.{lit<}
 use lib.ListN.{length}
+use mir.Facts.{fits-le, fits-lit}
 use denote.Ref.{now}
-use Rattle.relaxation.specs.Limits.{calmLimit}
-use Rattle.relaxation.proofs.IndexLaws.{scaled, below, room, counted, small-fits, positive}
+use Rattle.relaxation.specs.Limits.{nodeLimit, calmLimit}
+use Rattle.buffers.proofs.IndexLaws.{scaled, inside-same, room, some, positive}
 use Rattle.augment.proofs.TreeLaws.{zeros}
 use Rattle.augment.proofs.GrowLaws.{Growing}
 use Rattle.augment.proofs.GrowLaws as laws
@@ -46,14 +48,14 @@ mul-if1 c =
     let s = c .before .before .before .before .before .before .before .before .before .before .before .before .before .before .before
     .before .before .before .before .before .before .before in
     let a = s .args in
-    scaled (c .loop .t) (a .n) (c .loop .inv .0 .inside) (s .pre .1 .1 .1 .0 .few)
+    scaled (c .loop .t) (a .n) nodeLimit 8 (c .loop .inv .0 .inside) (s .pre .1 .1 .1 .0 .few) (lit< tt)
 
 shared-slice-read-if1 : tie.Need-shared-slice-read-if1 Inv-loop μ-loop
 shared-slice-read-if1 c =
     let s = c .before .before .before .before .before .before .before .before .before .before .before .before .before .before .before
     .before .before .before .before .before .before .before .before in
     let a = s .args in
-    below (c .before .loop .t) (a .n) (length (now (a .demand))) (c .before .loop .inv .0 .inside) (s .pre .1 .1 .1 .1 .0 .demand-long)
+    inside-same (c .before .loop .t) (a .n) (length (now (a .demand))) (c .before .loop .inv .0 .inside) (s .pre .1 .1 .1 .1 .0 .demand-long)
 
 sub-marked : tie.Need-sub-marked Inv-loop μ-loop
 sub-marked c =
@@ -62,7 +64,7 @@ sub-marked c =
     let a = s .args in
     let l = c .before .before .loop in
     let i = l .inv in
-    counted _ _ (i .0 .tree .root) (i .0 .tree .ranks (a .s) (s .pre .1 .1 .1 .1 .1 .1 .0))
+    some _ _ (i .0 .tree .ranks (a .s) (s .pre .1 .1 .1 .1 .1 .1 .0))
 
 next-exit-requires : tie.Need-next-exit-requires Inv-loop μ-loop
 next-exit-requires c κs =
@@ -131,7 +133,7 @@ add-count c =
     let a = s .args in
     let l = at-loop .loop in
     let i = l .inv in
-    small-fits _
+    fits-le
     (laws.growing-count (now (a .from)) (now (a .to)) (now (a .gap)) (now (a .flow)) (now (a .weight)) (now (a .supply)) (now (a .demand))
     (a .n) (a .s) (a .amount) (s .pre .0) (s .pre .1 .0) (s .pre .1 .1 .1 .0) (now (a .y)) (s .pre .1 .1 .1 .1 .0)
     (s .pre .1 .1 .1 .1 .1 .1 .0) (s .pre .1 .1 .1 .1 .1 .1 .1 .0) (l .y) (l .rank) (l .parent) (l .capacity) (l .count) (l .t) (i .0)
@@ -139,7 +141,7 @@ add-count c =
     (after-next-exit .next-exit .ensures) (after-next-exit .next-exit .ensures .fits) (after-raise-marked .raise-marked .last .0)
     (after-raise-marked .raise-marked .ensures) (after-mark-end .mark-end .last .1 .1 .1 .0)
     (after-mark-end .mark-end .last .1 .1 .1 .1 .0) (after-mark-end .mark-end .last .1 .1 .1 .1 .1 .0)
-    (after-mark-end .mark-end .result) (after-mark-end .mark-end .ensures))
+    (after-mark-end .mark-end .result) (after-mark-end .mark-end .ensures)) (fits-lit tt)
 
 loop-less : tie.Need-loop-less Inv-loop μ-loop
 loop-less c =

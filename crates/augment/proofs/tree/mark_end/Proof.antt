@@ -3,13 +3,13 @@ use lib.ListN.{length, length-set}
 use denote.Ref.{now}
 use Rattle.graph.specs.Rows.{at}
 use Rattle.augment.specs.Search.{Marks}
-use Rattle.relaxation.proofs.IndexLaws.{offset, under, positive}
+use Rattle.buffers.proofs.IndexLaws.{offset, inside-more, positive}
 use borrow.Author.Needs.{needs}
 use Rattle.augment.proofs.tree.mark_end.Statement.{statement}
 use Rattle.augment.proofs.tree.mark_end.Tie as tie
 
 mul-f : tie.Need-mul-f
-mul-f c = let s = c .before .before .before .before .before .before in offset (s .args .a) (length (now (s .args .from))) (s .pre .from-long) (s .good .0 .1)
+mul-f c = let s = c .before .before .before .before .before .before in offset (s .args .a) (length (now (s .args .from))) 8 (s .pre .from-long) (s .good .0 .1)
 
 shared-slice-read-f : tie.Need-shared-slice-read-f
 shared-slice-read-f c = c .before .before .before .before .before .before .before .pre .from-long
@@ -17,7 +17,7 @@ shared-slice-read-f c = c .before .before .before .before .before .before .befor
 mul-t : tie.Need-mul-t
 mul-t c =
     let s = c .before .before .before .before .before .before .before in
-    offset (s .args .a) (length (now (s .args .from))) (s .pre .from-long) (s .good .0 .1)
+    offset (s .args .a) (length (now (s .args .from))) 8 (s .pre .from-long) (s .good .0 .1)
 
 shared-slice-read-t : tie.Need-shared-slice-read-t
 shared-slice-read-t c = c .before .before .before .before .before .before .before .before .pre .to-long
@@ -25,7 +25,7 @@ shared-slice-read-t c = c .before .before .before .before .before .before .befor
 mul-if1 : tie.Need-mul-if1
 mul-if1 c =
     let s = c .before .before .before .before .before .before .before .before in
-    offset (at (now (s .args .to)) (s .args .a)) (length (now (s .args .rank))) (s .pre .to-in) (s .good .1 .1 .1 .0 .1)
+    offset (at (now (s .args .to)) (s .args .a)) (length (now (s .args .rank))) 8 (s .pre .to-in) (s .good .1 .1 .1 .0 .1)
 
 slice-read-if1 : tie.Need-slice-read-if1
 slice-read-if1 c = c .before .before .before .before .before .before .before .before .before .pre .to-in
@@ -33,18 +33,18 @@ slice-read-if1 c = c .before .before .before .before .before .before .before .be
 mul-c : tie.Need-mul-c
 mul-c c =
     let s = c .before .before .before .before .before .before .before .before .before .before in
-    offset (at (now (s .args .from)) (s .args .a)) (length (now (s .args .rank))) (s .pre .from-in) (s .good .1 .1 .1 .0 .1)
+    offset (at (now (s .args .from)) (s .args .a)) (length (now (s .args .rank))) 8 (s .pre .from-in) (s .good .1 .1 .1 .0 .1)
 
 slice-read-c : tie.Need-slice-read-c
 slice-read-c c =
     let s = c .before .before .before .before .before .before .before .before .before .before .before in
-    under (at (now (s .args .from)) (s .args .a)) (length (now (s .args .rank))) (length (now (s .args .capacity))) (s .pre .from-in)
+    inside-more (at (now (s .args .from)) (s .args .a)) (length (now (s .args .rank))) (length (now (s .args .capacity))) (s .pre .from-in)
     (s .pre .capacity-long)
 
 mul-rank : tie.Need-mul-rank
 mul-rank c =
     let s = c .before .before .before .before .before .before .before .before .before .before .before in
-    offset (at (now (s .args .to)) (s .args .a)) (length (now (s .args .rank))) (s .pre .to-in) (s .good .1 .1 .1 .0 .1)
+    offset (at (now (s .args .to)) (s .args .a)) (length (now (s .args .rank))) 8 (s .pre .to-in) (s .good .1 .1 .1 .0 .1)
 
 slice-write-rank : tie.Need-slice-write-rank
 slice-write-rank c = c .before .before .before .before .before .before .before .before .before .before .before .pre .to-in
@@ -52,23 +52,23 @@ slice-write-rank c = c .before .before .before .before .before .before .before .
 mul-parent : tie.Need-mul-parent
 mul-parent c =
     let s = c .before .before .before .before .before .before .before .before .before .before .before in
-    offset (at (now (s .args .to)) (s .args .a)) (length (now (s .args .rank))) (s .pre .to-in) (s .good .1 .1 .1 .0 .1)
+    offset (at (now (s .args .to)) (s .args .a)) (length (now (s .args .rank))) 8 (s .pre .to-in) (s .good .1 .1 .1 .0 .1)
 
 slice-write-parent : tie.Need-slice-write-parent
 slice-write-parent c =
     let s = c .before .before .before .before .before .before .before .before .before .before .before in
-    under (at (now (s .args .to)) (s .args .a)) (length (now (s .args .rank))) (length (now (s .args .parent))) (s .pre .to-in)
+    inside-more (at (now (s .args .to)) (s .args .a)) (length (now (s .args .rank))) (length (now (s .args .parent))) (s .pre .to-in)
     (s .pre .parent-long)
 
 mul-capacity : tie.Need-mul-capacity
 mul-capacity c =
     let s = c .before .before .before .before .before .before .before .before .before .before .before in
-    offset (at (now (s .args .to)) (s .args .a)) (length (now (s .args .rank))) (s .pre .to-in) (s .good .1 .1 .1 .0 .1)
+    offset (at (now (s .args .to)) (s .args .a)) (length (now (s .args .rank))) 8 (s .pre .to-in) (s .good .1 .1 .1 .0 .1)
 
 slice-write-capacity : tie.Need-slice-write-capacity
 slice-write-capacity c =
     let s = c .before .before .before .before .before .before .before .before .before .before .before in
-    under (at (now (s .args .to)) (s .args .a)) (length (now (s .args .rank))) (length (now (s .args .capacity))) (s .pre .to-in)
+    inside-more (at (now (s .args .to)) (s .args .a)) (length (now (s .args .rank))) (length (now (s .args .capacity))) (s .pre .to-in)
     (s .pre .capacity-long)
 
 same-length : tie.Need-same-length
@@ -101,7 +101,7 @@ slice-read-smaller-of c = search needs
 mul-smaller-of-2 : tie.Need-mul-smaller-of-2
 mul-smaller-of-2 c =
     let s = c .before .before .before .before .before .before .before .before .before .before .before in
-    offset (s .args .a) (length (now (s .args .from))) (s .pre .from-long) (s .good .0 .1)
+    offset (s .args .a) (length (now (s .args .from))) 8 (s .pre .from-long) (s .good .0 .1)
 
 shared-slice-read-smaller-of : tie.Need-shared-slice-read-smaller-of
 shared-slice-read-smaller-of c = c .before .before .before .before .before .before .before .before .before .before .before .before .pre .flow-long
@@ -112,7 +112,7 @@ smaller-of-requires c κs = tt
 mul-rank-2 : tie.Need-mul-rank-2
 mul-rank-2 c =
     let s = c .before .before .before .before .before .before .before .before .before .before .before .before .before in
-    offset (at (now (s .args .from)) (s .args .a)) (length (now (s .args .rank))) (s .pre .from-in) (s .good .1 .1 .1 .0 .1)
+    offset (at (now (s .args .from)) (s .args .a)) (length (now (s .args .rank))) 8 (s .pre .from-in) (s .good .1 .1 .1 .0 .1)
 
 slice-write-rank-2 : tie.Need-slice-write-rank-2
 slice-write-rank-2 c = c .before .before .before .before .before .before .before .before .before .before .before .before .before .pre .from-in
@@ -120,23 +120,23 @@ slice-write-rank-2 c = c .before .before .before .before .before .before .before
 mul-parent-2 : tie.Need-mul-parent-2
 mul-parent-2 c =
     let s = c .before .before .before .before .before .before .before .before .before .before .before .before .before in
-    offset (at (now (s .args .from)) (s .args .a)) (length (now (s .args .rank))) (s .pre .from-in) (s .good .1 .1 .1 .0 .1)
+    offset (at (now (s .args .from)) (s .args .a)) (length (now (s .args .rank))) 8 (s .pre .from-in) (s .good .1 .1 .1 .0 .1)
 
 slice-write-parent-2 : tie.Need-slice-write-parent-2
 slice-write-parent-2 c =
     let s = c .before .before .before .before .before .before .before .before .before .before .before .before .before in
-    under (at (now (s .args .from)) (s .args .a)) (length (now (s .args .rank))) (length (now (s .args .parent))) (s .pre .from-in)
+    inside-more (at (now (s .args .from)) (s .args .a)) (length (now (s .args .rank))) (length (now (s .args .parent))) (s .pre .from-in)
     (s .pre .parent-long)
 
 mul-capacity-2 : tie.Need-mul-capacity-2
 mul-capacity-2 c =
     let s = c .before .before .before .before .before .before .before .before .before .before .before .before .before in
-    offset (at (now (s .args .from)) (s .args .a)) (length (now (s .args .rank))) (s .pre .from-in) (s .good .1 .1 .1 .0 .1)
+    offset (at (now (s .args .from)) (s .args .a)) (length (now (s .args .rank))) 8 (s .pre .from-in) (s .good .1 .1 .1 .0 .1)
 
 slice-write-capacity-2 : tie.Need-slice-write-capacity-2
 slice-write-capacity-2 c =
     let s = c .before .before .before .before .before .before .before .before .before .before .before .before .before in
-    under (at (now (s .args .from)) (s .args .a)) (length (now (s .args .rank))) (length (now (s .args .capacity))) (s .pre .from-in)
+    inside-more (at (now (s .args .from)) (s .args .a)) (length (now (s .args .rank))) (length (now (s .args .capacity))) (s .pre .from-in)
     (s .pre .capacity-long)
 
 same-length-4 : tie.Need-same-length-4

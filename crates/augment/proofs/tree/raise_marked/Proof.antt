@@ -4,7 +4,7 @@ use mathlib.Core.Logic.{⊎-elim}
 use Prim.Native.Nat.{_-_, _≤_}
 use lib.ListN.{length}
 use denote.Ref.{now}
-use Rattle.relaxation.proofs.IndexLaws.{offset, under, wide, nearer}
+use Rattle.buffers.proofs.IndexLaws.{offset, inside-more, wide, nearer}
 use Rattle.augment.proofs.TreeLaws as laws
 use Rattle.augment.proofs.TreeLaws.{Raising}
 use Rattle.augment.proofs.tree.raise_marked.Statement.{statement}
@@ -25,20 +25,20 @@ loop-holds c = (omega arith, laws.raising-none _ _ _ _)
 mul-if2 : tie.Need-mul-if2 Inv-loop μ-loop
 mul-if2 c =
     let s = c .before .before .before in
-    offset (c .before .loop .v) (length (now (s .args .rank)))
-    (under (c .before .loop .v) (s .args .n) (length (now (s .args .rank))) (c .loop-test .taken) (s .pre .1 .0)) (s .good .1 .0 .1)
+    offset (c .before .loop .v) (length (now (s .args .rank))) 8
+    (inside-more (c .before .loop .v) (s .args .n) (length (now (s .args .rank))) (c .loop-test .taken) (s .pre .1 .0)) (s .good .1 .0 .1)
 
 shared-slice-read-if2 : tie.Need-shared-slice-read-if2 Inv-loop μ-loop
 shared-slice-read-if2 c =
     let s = c .before .before .before .before in
-    under (c .before .before .loop .v) (s .args .n) (length (now (s .args .rank))) (c .before .loop-test .taken) (s .pre .1 .0)
+    inside-more (c .before .before .loop .v) (s .args .n) (length (now (s .args .rank))) (c .before .loop-test .taken) (s .pre .1 .0)
 
 mul-y : tie.Need-mul-y Inv-loop μ-loop
 mul-y c =
     let at-loop = c .before .before .before in
     let s = at-loop .before .before in
-    offset (at-loop .loop .v) (length (now (s .args .rank)))
-    (under (at-loop .loop .v) (s .args .n) (length (now (s .args .rank))) (c .before .before .loop-test .taken) (s .pre .1 .0))
+    offset (at-loop .loop .v) (length (now (s .args .rank))) 8
+    (inside-more (at-loop .loop .v) (s .args .n) (length (now (s .args .rank))) (c .before .before .loop-test .taken) (s .pre .1 .0))
     (s .good .1 .0 .1)
 
 slice-read-y : tie.Need-slice-read-y Inv-loop μ-loop
@@ -47,7 +47,7 @@ slice-read-y c =
     let at-loop = in-loop .before in
     let s = at-loop .before .before in
     let l = at-loop .loop in
-    under (l .v) (s .args .n) (length (l .y)) (in-loop .loop-test .taken)
+    inside-more (l .v) (s .args .n) (length (l .y)) (in-loop .loop-test .taken)
     (wide (length (now (s .args .y))) (s .args .n) (length (l .y)) (s .pre .0) (l .inv .1 .long))
 
 add-y : tie.Need-add-y Inv-loop μ-loop
@@ -63,7 +63,7 @@ slice-write-y c =
     let at-loop = in-loop .before in
     let s = at-loop .before .before in
     let l = at-loop .loop in
-    under (l .v) (s .args .n) (length (l .y)) (in-loop .loop-test .taken)
+    inside-more (l .v) (s .args .n) (length (l .y)) (in-loop .loop-test .taken)
     (wide (length (now (s .args .y))) (s .args .n) (length (l .y)) (s .pre .0) (l .inv .1 .long))
 
 add-v : tie.Need-add-v Inv-loop μ-loop

@@ -9,10 +9,10 @@ use Rattle.crossings.proofs.between.count_between.Statement.{statement}
 use Rattle.crossings.proofs.between.count_between.Tie as tie
 
 abbrev Inv-loop : tie.InvT-loop
-Inv-loop points head next lower pos counts₀ blocks₀ sum₀ i₀ counts blocks sum i = (length blocks ≡ length blocks₀) × laws.Sweeping lower pos next head points (length counts₀) counts blocks sum i
+Inv-loop points head next lower pos counts₀ blocks₀ sum₀ last₀ i₀ counts blocks sum last i = (length blocks ≡ length blocks₀) × laws.Sweeping lower pos next head points (length counts₀) counts blocks last sum i
 
 abbrev μ-loop : tie.MeasureT-loop
-μ-loop points head next lower pos counts₀ blocks₀ sum₀ i₀ counts blocks sum i = length points - i
+μ-loop points head next lower pos counts₀ blocks₀ sum₀ last₀ i₀ counts blocks sum last i = length points - i
 
 -- the start, from the head of the loop
 abbrev start : tie.At-loop Inv-loop μ-loop → tie.Start Inv-loop μ-loop
@@ -49,7 +49,7 @@ count-list-requires c κs =
     let i = c .before .before .before .before in
     let l = i .before .loop .inv .1 in
     let s = start (i .before) .pre in
-    (s .1 .0, (l .held, (laws.sweeping-few l (s .1 .1 .1 .1), (s .0 .heads-in _ (i .loop-test .taken), laws.sweeping-low l (i .loop-test .taken)))))
+    (s .1 .0, (l .held, (l .behind, (laws.sweeping-few l (s .1 .1 .1 .1), s .0 .heads-in _ (i .loop-test .taken)))))
 
 add-sum : tie.Need-add-sum Inv-loop μ-loop
 add-sum c =
@@ -61,7 +61,7 @@ raise-list-requires c κs =
     let i = c .before .before .before .before .before .before .before in
     let l = i .before .loop .inv .1 in
     let s = start (i .before) .pre in
-    (s .1 .0, (l .held, (laws.sweeping-few l (s .1 .1 .1 .1), (s .0 .heads-in _ (i .loop-test .taken), laws.sweeping-low l (i .loop-test .taken)))))
+    (s .1 .0, (l .held, (l .behind, (laws.sweeping-few l (s .1 .1 .1 .1), (s .0 .heads-in _ (i .loop-test .taken), laws.sweeping-low l (i .loop-test .taken))))))
 
 add-i : tie.Need-add-i Inv-loop μ-loop
 add-i c = omega arith
@@ -74,7 +74,7 @@ loop-again c =
     let i = c .before .before .before .before .before .before .before .before .before .before .before .before in
     let raised = c .before .before .before .before .raise-list in (
       omega (arith, raised .kept, i .before .loop .inv .0),
-      laws.sweeping-more (i .before .loop .inv .1) (i .loop-test .taken) (c .before .before .before .before .before .before .before .count-list .ensures) (raised .ensures .0) (raised .ensures .1),
+      laws.sweeping-more (i .before .loop .inv .1) (i .loop-test .taken) (c .before .before .before .before .before .before .before .count-list .ensures) (raised .ensures .0) (raised .ensures .1 .0) (raised .ensures .1 .1),
     )
 
 same-length : tie.Need-same-length Inv-loop μ-loop

@@ -9,10 +9,10 @@ use Rattle.crossings.proofs.tally.count_list.Statement.{statement}
 use Rattle.crossings.proofs.tally.count_list.Tie as tie
 
 abbrev Inv-loop : tie.InvT-loop
-Inv-loop lower pos next counts blocks h sum₀ x₀ sum x = laws.CountingList counts lower pos next h sum x
+Inv-loop lower pos next counts blocks last h sum₀ x₀ sum x = laws.CountingList counts lower pos next h sum x
 
 abbrev μ-loop : tie.MeasureT-loop
-μ-loop lower pos next counts blocks h sum₀ x₀ sum x = x
+μ-loop lower pos next counts blocks last h sum₀ x₀ sum x = x
 
 -- the next segment of the list, and its lower end
 inside : (c : tie.In-loop Inv-loop μ-loop) → c .before .loop .x - 1 < length (now (c .before .before .before .before .before .before .before .args .next))
@@ -22,7 +22,7 @@ end-in : (c : tie.In-loop Inv-loop μ-loop) → let a = c .before .before .befor
 end-in c = c .before .before .before .before .before .before .before .pre .0 .ends _ (inside c)
 
 loop-holds : tie.Need-loop-holds Inv-loop μ-loop
-loop-holds c = let s = c .before .before .before .before .before .pre in laws.list-start _ _ _ (s .1 .1 .1 .0) (s .1 .1 .1 .1)
+loop-holds c = let s = c .before .before .before .before .before .pre in laws.list-start _ _ _ (s .1 .1 .1 .1)
 
 sub-k : tie.Need-sub-k Inv-loop μ-loop
 sub-k c = omega arith
@@ -43,14 +43,14 @@ count-right-requires : tie.Need-count-right-requires Inv-loop μ-loop
 count-right-requires c κs =
     let i = c .before .before in
     let s = i .before .before .before .before .before .before .before .pre in
-    (s .1 .0, (laws.list-low (s .0) (i .before .loop .inv) (i .loop-test .taken), s .1 .1 .0))
+    (s .1 .0, (s .1 .1 .0, s .1 .1 .1 .0))
 
 add-sum : tie.Need-add-sum Inv-loop μ-loop
 add-sum c =
     let i = c .before .before .before in
     let s = i .before .before .before .before .before .before .before .pre in
     let more = laws.list-more (s .0) (i .before .loop .inv) (i .loop-test .taken) (c .count-right .ensures) in
-    omega (arith, laws.list-room more (laws.few-list (s .0) (s .1 .1 .1 .0)) (s .1 .1 .0))
+    omega (arith, laws.list-room more (laws.few-list (s .0) (s .1 .1 .1 .1)) (s .1 .1 .1 .0))
 
 mul-x : tie.Need-mul-x Inv-loop μ-loop
 mul-x c = omega (arith, inside (c .before .before .before))

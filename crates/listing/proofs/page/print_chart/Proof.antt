@@ -8,7 +8,7 @@ use lib.ListN.{length, take, replicate, length-map}
 use Rattle.points.specs.Limits.{maxPoints}
 use Rattle.points.specs.Points.{Dummy, dummies}
 use Rattle.ordering.specs.Charting.{Storable}
-use Rattle.listing.specs.Printing.{ownersOf, dummyRows, Layable}
+use Rattle.lines.specs.Printing.{ownersOf, dummyRows, Layable}
 use Rattle.listing.proofs.ChartedLaws.{Opened, opened}
 use Rattle.listing.proofs.PageLaws.{page-layable, page-sheet, page-head, page-rows, page-stored, stored-front, front-long}
 use borrow.Author.Needs.{needs}

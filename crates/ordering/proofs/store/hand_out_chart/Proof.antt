@@ -21,13 +21,20 @@ slice-aggregate-store-u8 : tie.Need-slice-aggregate-store-u8
 slice-aggregate-store-u8 c = search needs
 
 store-u8-requires : tie.Need-store-u8-requires
-store-u8-requires c κs = let t = c .before .before .before .before .before .before .before .before .before .before .pre .storable (c .before .before .before .before .before .before .enum-told .given .1) in (t .few-rows, (c .before .before .before .before .before .if1 .left, λ v h. omega (arith, t .low-rows v h)))
+store-u8-requires c κs =
+    let after-enum-told = c .before .before .before .before .before .before in
+    let start = after-enum-told .before .before .before .before in
+    let t = start .pre .storable (after-enum-told .enum-told .given .1) in (t .few-rows, (c .before .before .before .before .before .if1 .left, λ v h. omega (arith, t .low-rows v h)))
 
-slice-aggregate-store-u16 : tie.Need-slice-aggregate-store-u16
-slice-aggregate-store-u16 c = search needs
+slice-aggregate-copy-points : tie.Need-slice-aggregate-copy-points
+slice-aggregate-copy-points c = search needs
 
-store-u16-requires : tie.Need-store-u16-requires
-store-u16-requires c κs = let t = c .before .before .before .before .before .before .before .before .before .before .before .before .before .before .before .pre .storable (c .before .before .before .before .before .before .before .before .before .before .before .enum-told .given .1) in (t .few-points, (c .before .before .before .before .before .before .before .before .before .if2 .left, λ i h. omega (arith, t .low-points i h)))
+copy-points-requires : tie.Need-copy-points-requires
+copy-points-requires c κs =
+    let after-if2 = c .before .before .before .before .before .before .before .before .before in
+    let after-enum-told = after-if2 .before .before in
+    let start = after-enum-told .before .before .before .before in
+    let t = start .pre .storable (after-enum-told .enum-told .given .1) in (t .few-points, after-if2 .if2 .left)
 
 returns-3 : tie.Need-returns-3
 returns-3 c = handed-refused _ (c .before .before .before .before .before .pre) _ _ (c .before .verdict .given .1)
@@ -39,7 +46,13 @@ same-length-2 : tie.Need-same-length-2
 same-length-2 c = search needs
 
 returns-4 : tie.Need-returns-4
-returns-4 c = handed-done _ (c .before .before .before .before .before .before .before .before .before .before .before .before .before .before .before .before .before .before .pre) _ _ (c .before .before .before .before .before .before .before .before .before .before .before .before .before .before .enum-told .given .1) (c .before .before .before .before .before .before .before .before .before .before .before .before .before .if1 .left) (c .before .before .before .before .before .before .before .before .before .before .before .before .if2 .left) _ _ (c .before .before .before .before .before .before .before .store-u8 .ensures) (c .before .before .store-u16 .ensures)
+returns-4 c =
+    let after-store-u8 = c .before .before .before .before .before .before .before in
+    let after-if2 = after-store-u8 .before .before .before .before .before in
+    let after-if1 = after-if2 .before in
+    let after-enum-told = after-if1 .before in
+    let start = after-enum-told .before .before .before .before in
+    handed-done _ (start .pre) _ _ (after-enum-told .enum-told .given .1) (after-if1 .if1 .left) (after-if2 .if2 .left) _ _ (after-store-u8 .store-u8 .ensures) (c .before .before .copy-points .ensures)
 
 pub hand-out-chart-spec : {M : Type 1} → statement M
 hand-out-chart-spec =
@@ -51,8 +64,8 @@ hand-out-chart-spec =
     returns-2
     slice-aggregate-store-u8
     store-u8-requires
-    slice-aggregate-store-u16
-    store-u16-requires
+    slice-aggregate-copy-points
+    copy-points-requires
     returns-3
     same-length
     same-length-2

@@ -1,7 +1,7 @@
 use lib.ListN.{length}
 use denote.Ref.{now}
 use Rattle.graph.specs.Rows.{at}
-use Rattle.relaxation.proofs.IndexLaws.{offset}
+use Rattle.buffers.proofs.IndexLaws.{offset}
 use borrow.Author.Needs.{needs}
 use Rattle.relaxation.proofs.lowest.edge_short.Statement.{statement}
 use Rattle.relaxation.proofs.lowest.edge_short.Tie as tie
@@ -15,7 +15,7 @@ shared-slice-read-lo c = search needs
 mul-lo-2 : tie.Need-mul-lo-2
 mul-lo-2 c =
     let s = c .before in
-    offset (at (now (s .args .from)) (s .args .a)) (length (now (s .args .y))) (s .pre .1 .from-in _ (s .pre .0)) (s .good .1 .1 .1 .0 .1)
+    offset (at (now (s .args .from)) (s .args .a)) (length (now (s .args .y))) 8 (s .pre .1 .from-in _ (s .pre .0)) (s .good .1 .1 .1 .0 .1)
 
 shared-slice-read-lo-2 : tie.Need-shared-slice-read-lo-2
 shared-slice-read-lo-2 c = let s = c .before .before in s .pre .1 .from-in _ (s .pre .0)
@@ -29,7 +29,7 @@ shared-slice-read-hi c = search needs
 mul-hi-2 : tie.Need-mul-hi-2
 mul-hi-2 c =
     let s = c .before .before .before in
-    offset (at (now (s .args .to)) (s .args .a)) (length (now (s .args .y))) (s .pre .1 .to-in _ (s .pre .0)) (s .good .1 .1 .1 .0 .1)
+    offset (at (now (s .args .to)) (s .args .a)) (length (now (s .args .y))) 8 (s .pre .1 .to-in _ (s .pre .0)) (s .good .1 .1 .1 .0 .1)
 
 shared-slice-read-hi-2 : tie.Need-shared-slice-read-hi-2
 shared-slice-read-hi-2 c = let s = c .before .before .before .before in s .pre .1 .to-in _ (s .pre .0)

@@ -3,7 +3,7 @@ use lib.ListN.{length, set}
 use denote.Ref.{now}
 use native.Mathlib.Omega.{arith}
 use Rattle.graph.specs.Rows.{at}
-use Rattle.relaxation.proofs.IndexLaws.{offset, under, below}
+use Rattle.buffers.proofs.IndexLaws.{offset, inside-more, inside-same}
 use borrow.Author.Needs.{needs}
 use Rattle.relaxation.proofs.lowest.prop_edge.Statement.{statement}
 use Rattle.relaxation.proofs.lowest.prop_edge.Tie as tie
@@ -25,14 +25,14 @@ mul-prop-of-2 c =
     let s = c .before .before .before .before .before .before .before in
     let a = s .args in
     let f = at (now (a .from)) (a .a) in
-    offset f (length (now (a .y))) (under f (a .n) (length (now (a .y))) (s .pre .1 .0 .from-in (a .a) (s .pre .0)) (s .pre .1 .1 .0))
+    offset f (length (now (a .y))) 8 (inside-more f (a .n) (length (now (a .y))) (s .pre .1 .0 .from-in (a .a) (s .pre .0)) (s .pre .1 .1 .0))
     (s .good .1 .1 .1 .1 .0 .1)
 
 shared-slice-read-prop-of-2 : tie.Need-shared-slice-read-prop-of-2
 shared-slice-read-prop-of-2 c =
     let s = c .before .before .before .before .before .before .before .before in
     let a = s .args in
-    under (at (now (a .from)) (a .a)) (a .n) (length (now (a .y))) (s .pre .1 .0 .from-in (a .a) (s .pre .0)) (s .pre .1 .1 .0)
+    inside-more (at (now (a .from)) (a .a)) (a .n) (length (now (a .y))) (s .pre .1 .0 .from-in (a .a) (s .pre .0)) (s .pre .1 .1 .0)
 
 mul-prop-of-3 : tie.Need-mul-prop-of-3
 mul-prop-of-3 c = search needs
@@ -45,14 +45,14 @@ mul-prop-of-4 c =
     let s = c .before .before .before .before .before .before .before .before .before in
     let a = s .args in
     let t = at (now (a .to)) (a .a) in
-    offset t (length (now (a .y))) (under t (a .n) (length (now (a .y))) (s .pre .1 .0 .to-in (a .a) (s .pre .0)) (s .pre .1 .1 .0))
+    offset t (length (now (a .y))) 8 (inside-more t (a .n) (length (now (a .y))) (s .pre .1 .0 .to-in (a .a) (s .pre .0)) (s .pre .1 .1 .0))
     (s .good .1 .1 .1 .1 .0 .1)
 
 shared-slice-read-prop-of-4 : tie.Need-shared-slice-read-prop-of-4
 shared-slice-read-prop-of-4 c =
     let s = c .before .before .before .before .before .before .before .before .before .before in
     let a = s .args in
-    under (at (now (a .to)) (a .a)) (a .n) (length (now (a .y))) (s .pre .1 .0 .to-in (a .a) (s .pre .0)) (s .pre .1 .1 .0)
+    inside-more (at (now (a .to)) (a .a)) (a .n) (length (now (a .y))) (s .pre .1 .0 .to-in (a .a) (s .pre .0)) (s .pre .1 .1 .0)
 
 prop-of-requires : tie.Need-prop-of-requires
 prop-of-requires c κs =
@@ -64,14 +64,14 @@ mul-larger-of c =
     let s = c .before .before .before .before .before .before .before .before .before .before .before in
     let a = s .args in
     let t = at (now (a .to)) (a .a) in
-    offset t (length (now (a .mark)))
-    (below t (a .n) (length (now (a .mark))) (s .pre .1 .0 .to-in (a .a) (s .pre .0)) (s .pre .1 .1 .1 .0)) (s .good .1 .1 .1 .1 .1 .0 .1)
+    offset t (length (now (a .mark))) 8
+    (inside-same t (a .n) (length (now (a .mark))) (s .pre .1 .0 .to-in (a .a) (s .pre .0)) (s .pre .1 .1 .1 .0)) (s .good .1 .1 .1 .1 .1 .0 .1)
 
 slice-read-larger-of : tie.Need-slice-read-larger-of
 slice-read-larger-of c =
     let s = c .before .before .before .before .before .before .before .before .before .before .before .before in
     let a = s .args in
-    below (at (now (a .to)) (a .a)) (a .n) (length (now (a .mark))) (s .pre .1 .0 .to-in (a .a) (s .pre .0)) (s .pre .1 .1 .1 .0)
+    inside-same (at (now (a .to)) (a .a)) (a .n) (length (now (a .mark))) (s .pre .1 .0 .to-in (a .a) (s .pre .0)) (s .pre .1 .1 .1 .0)
 
 larger-of-requires : tie.Need-larger-of-requires
 larger-of-requires c κs = search needs
@@ -81,14 +81,14 @@ mul-mark c =
     let s = c .before .before .before .before .before .before .before .before .before .before .before .before .before in
     let a = s .args in
     let t = at (now (a .to)) (a .a) in
-    offset t (length (now (a .mark)))
-    (below t (a .n) (length (now (a .mark))) (s .pre .1 .0 .to-in (a .a) (s .pre .0)) (s .pre .1 .1 .1 .0)) (s .good .1 .1 .1 .1 .1 .0 .1)
+    offset t (length (now (a .mark))) 8
+    (inside-same t (a .n) (length (now (a .mark))) (s .pre .1 .0 .to-in (a .a) (s .pre .0)) (s .pre .1 .1 .1 .0)) (s .good .1 .1 .1 .1 .1 .0 .1)
 
 slice-write-mark : tie.Need-slice-write-mark
 slice-write-mark c =
     let s = c .before .before .before .before .before .before .before .before .before .before .before .before .before in
     let a = s .args in
-    below (at (now (a .to)) (a .a)) (a .n) (length (now (a .mark))) (s .pre .1 .0 .to-in (a .a) (s .pre .0)) (s .pre .1 .1 .1 .0)
+    inside-same (at (now (a .to)) (a .a)) (a .n) (length (now (a .mark))) (s .pre .1 .0 .to-in (a .a) (s .pre .0)) (s .pre .1 .1 .1 .0)
 
 same-length : tie.Need-same-length
 same-length c = search needs

@@ -4,7 +4,7 @@ use Prim.Native.Nat.{_-_, _≤_}
 use native.Mathlib.Omega.{arith}
 use lib.ListN.{length}
 use denote.Ref.{now}
-use Rattle.relaxation.proofs.IndexLaws.{room}
+use Rattle.buffers.proofs.IndexLaws.{room}
 use Rattle.buffers.proofs.ListLaws.{cleared}
 use Rattle.relaxation.specs.Lowest.{Propped}
 use Rattle.relaxation.proofs.LowestLaws.{propped-none, propped-turn}

@@ -1,37 +1,37 @@
 use lib.ListN.{length, length-set}
 use denote.Ref.{now}
 use Rattle.graph.specs.Rows.{at}
-use Rattle.relaxation.proofs.IndexLaws.{offset, below}
+use Rattle.buffers.proofs.IndexLaws.{offset, inside-same}
 use Rattle.relaxation.proofs.SweepLaws as laws
 use Rattle.relaxation.proofs.relax.relax_edge.Statement.{statement}
 use Rattle.relaxation.proofs.relax.relax_edge.Tie as tie
 
 mul-f : tie.Need-mul-f
-mul-f c = let s = c .before .before .before .before .before in offset (s .args .a) (length (now (s .args .from))) (s .pre .0) (s .good .0 .1)
+mul-f c = let s = c .before .before .before .before .before in offset (s .args .a) (length (now (s .args .from))) 8 (s .pre .0) (s .good .0 .1)
 
 shared-slice-read-f : tie.Need-shared-slice-read-f
 shared-slice-read-f c = c .before .before .before .before .before .before .pre .0
 
 mul-t : tie.Need-mul-t
-mul-t c = let s = c .before .before .before .before .before .before in offset (s .args .a) (length (now (s .args .from))) (s .pre .0) (s .good .0 .1)
+mul-t c = let s = c .before .before .before .before .before .before in offset (s .args .a) (length (now (s .args .from))) 8 (s .pre .0) (s .good .0 .1)
 
 shared-slice-read-t : tie.Need-shared-slice-read-t
 shared-slice-read-t c =
     let s = c .before .before .before .before .before .before .before in
-    below (s .args .a) (length (now (s .args .from))) (length (now (s .args .to))) (s .pre .0) (s .pre .1 .0 .to-long)
+    inside-same (s .args .a) (length (now (s .args .from))) (length (now (s .args .to))) (s .pre .0) (s .pre .1 .0 .to-long)
 
 mul-g : tie.Need-mul-g
-mul-g c = let s = c .before .before .before .before .before .before .before in offset (s .args .a) (length (now (s .args .from))) (s .pre .0) (s .good .0 .1)
+mul-g c = let s = c .before .before .before .before .before .before .before in offset (s .args .a) (length (now (s .args .from))) 8 (s .pre .0) (s .good .0 .1)
 
 shared-slice-read-g : tie.Need-shared-slice-read-g
 shared-slice-read-g c =
     let s = c .before .before .before .before .before .before .before .before in
-    below (s .args .a) (length (now (s .args .from))) (length (now (s .args .gap))) (s .pre .0) (s .pre .1 .0 .gap-long)
+    inside-same (s .args .a) (length (now (s .args .from))) (length (now (s .args .gap))) (s .pre .0) (s .pre .1 .0 .gap-long)
 
 mul-lo : tie.Need-mul-lo
 mul-lo c =
     let s = c .before .before .before .before .before .before .before .before in
-    offset (at (now (s .args .from)) (s .args .a)) (length (now (s .args .y))) (s .pre .1 .0 .from-in (s .args .a) (s .pre .0))
+    offset (at (now (s .args .from)) (s .args .a)) (length (now (s .args .y))) 8 (s .pre .1 .0 .from-in (s .args .a) (s .pre .0))
     (s .good .1 .1 .1 .1 .0 .1)
 
 slice-read-lo : tie.Need-slice-read-lo
@@ -40,7 +40,7 @@ slice-read-lo c = let s = c .before .before .before .before .before .before .bef
 mul-hi : tie.Need-mul-hi
 mul-hi c =
     let s = c .before .before .before .before .before .before .before .before .before in
-    offset (at (now (s .args .to)) (s .args .a)) (length (now (s .args .y))) (s .pre .1 .0 .to-in (s .args .a) (s .pre .0))
+    offset (at (now (s .args .to)) (s .args .a)) (length (now (s .args .y))) 8 (s .pre .1 .0 .to-in (s .args .a) (s .pre .0))
     (s .good .1 .1 .1 .1 .0 .1)
 
 slice-read-hi : tie.Need-slice-read-hi
@@ -49,12 +49,12 @@ slice-read-hi c = let s = c .before .before .before .before .before .before .bef
 mul-lift-tail : tie.Need-mul-lift-tail
 mul-lift-tail c =
     let s = c .before .before .before .before .before .before .before .before .before .before in
-    offset (s .args .a) (length (now (s .args .from))) (s .pre .0) (s .good .0 .1)
+    offset (s .args .a) (length (now (s .args .from))) 8 (s .pre .0) (s .good .0 .1)
 
 shared-slice-read-lift-tail : tie.Need-shared-slice-read-lift-tail
 shared-slice-read-lift-tail c =
     let s = c .before .before .before .before .before .before .before .before .before .before .before in
-    below (s .args .a) (length (now (s .args .from))) (length (now (s .args .flow))) (s .pre .0) (s .pre .1 .1 .0)
+    inside-same (s .args .a) (length (now (s .args .from))) (length (now (s .args .flow))) (s .pre .0) (s .pre .1 .1 .0)
 
 lift-tail-requires : tie.Need-lift-tail-requires
 lift-tail-requires c κs =
@@ -72,7 +72,7 @@ larger-of-requires c κs = tt
 mul-y : tie.Need-mul-y
 mul-y c =
     let s = c .before .before .before .before .before .before .before .before .before .before .before .before .before in
-    offset (at (now (s .args .from)) (s .args .a)) (length (now (s .args .y))) (s .pre .1 .0 .from-in (s .args .a) (s .pre .0))
+    offset (at (now (s .args .from)) (s .args .a)) (length (now (s .args .y))) 8 (s .pre .1 .0 .from-in (s .args .a) (s .pre .0))
     (s .good .1 .1 .1 .1 .0 .1)
 
 slice-write-y : tie.Need-slice-write-y
@@ -83,13 +83,13 @@ slice-write-y c =
 mul-y-2 : tie.Need-mul-y-2
 mul-y-2 c =
     let s = c .before .before .before .before .before .before .before .before .before .before .before .before .before in
-    offset (at (now (s .args .to)) (s .args .a)) (length (now (s .args .y))) (s .pre .1 .0 .to-in (s .args .a) (s .pre .0))
+    offset (at (now (s .args .to)) (s .args .a)) (length (now (s .args .y))) 8 (s .pre .1 .0 .to-in (s .args .a) (s .pre .0))
     (s .good .1 .1 .1 .1 .0 .1)
 
 slice-write-y-2 : tie.Need-slice-write-y-2
 slice-write-y-2 c =
     let s = c .before .before .before .before .before .before .before .before .before .before .before .before .before in
-    below (at (now (s .args .to)) (s .args .a)) (length (now (s .args .y))) _ (s .pre .1 .0 .to-in (s .args .a) (s .pre .0))
+    inside-same (at (now (s .args .to)) (s .args .a)) (length (now (s .args .y))) _ (s .pre .1 .0 .to-in (s .args .a) (s .pre .0))
     (length-set (now (s .args .y)) (at (now (s .args .from)) (s .args .a)) _)
 
 moved-any-requires : tie.Need-moved-any-requires

@@ -1,7 +1,7 @@
 use denote.Ref.{now}
 use lib.ListN.{length}
 use mathlib.Core.Path.{sym, _∙_}
-use Rattle.relaxation.proofs.IndexLaws.{room, wide}
+use Rattle.buffers.proofs.IndexLaws.{room, wide}
 use Rattle.buffers.proofs.ListLaws.{cleared}
 use Rattle.relaxation.proofs.LowLaws as laws
 use borrow.Author.Needs.{needs}

@@ -1,13 +1,13 @@
 -- `lists::many_edges` meets its contract: the first i edges stand in the array, the other entries are blank (`Filling`).
 use mathlib.Core.Path.{sym, ap, _∙_}
 use Prim.Native.Nat.{_-_}
-use native.Mathlib.Nat.{le-trans, lt-of-lt-of-le}
-use lib.Dec.{lit≤}
+use native.Mathlib.Nat.{lt-of-lt-of-le}
+use lib.Dec.{lit<}
 use Rattle.table.specs.Limits.{maxEdges}
 use Rattle.table.specs.Table.{edgeAt}
 use Rattle.graph.specs.Rows.{noEdge}
 use Rattle.table.specs.Reads.{edgeRead}
-use Rattle.table.proofs.FitLaws.{next-fits, left-less, scaled}
+use Rattle.buffers.proofs.IndexLaws.{next-fits, nearer, scaled}
 use Rattle.table.proofs.ListLaws.{Filling, filling-start, filling-next, filling-fault, filling-end}
 use Rattle.table.proofs.lists.many_edges.Statement.{statement}
 use Rattle.table.proofs.lists.many_edges.Tie as tie
@@ -40,7 +40,7 @@ enum-known-edge : tie.Need-enum-known-edge Inv-loop μ-loop
 enum-known-edge c = c .match .keys2
 
 mul-list : tie.Need-mul-list Inv-loop μ-loop
-mul-list c = scaled _ _ (c .before .before .before .before .loop-test .taken) (le-trans (c .before .before .before .before .before .before .before .before .pre) (lit≤ tt))
+mul-list c = scaled _ _ maxEdges 0x20 (c .before .before .before .before .loop-test .taken) (c .before .before .before .before .before .before .before .before .pre) (lit< tt)
 
 array-set-from-list : tie.Need-array-set-from-list Inv-loop μ-loop
 array-set-from-list c = lt-of-lt-of-le (c .before .before .before .before .loop-test .taken) (c .before .before .before .before .before .before .before .before .pre)
@@ -49,7 +49,7 @@ add-i : tie.Need-add-i Inv-loop μ-loop
 add-i c = next-fits _ _ (c .before .before .before .before .loop-test .taken) (c .before .before .before .before .before .before .before .before .fits .m)
 
 loop-less : tie.Need-loop-less Inv-loop μ-loop
-loop-less c = left-less _ _ (c .before .before .before .before .loop-test .taken)
+loop-less c = nearer _ _ (c .before .before .before .before .loop-test .taken)
 
 loop-again : tie.Need-loop-again Inv-loop μ-loop
 loop-again c = filling-next _ _ _ _ _ _ _ _ (c .before .before .before .before .before .loop .inv) _ _ (c .before .before .before .before .before .before .before .before .pre) (c .before .before .before .before .loop-test .taken) (sym (c .before .before .before .edge-at .ensures) ∙ ap edgeRead (c .before .edge .given .1))

@@ -7,7 +7,7 @@ use lib.Dec.{lit≤}
 use mir.Syntax.{w8, w64}
 use mir.Val.{Fits}
 use mir.Facts.{fits-8-64, fits-sub}
-use Rattle.table.proofs.FitLaws.{near, more, few}
+use Rattle.buffers.proofs.IndexLaws.{near, more, few}
 use Rattle.table.proofs.NumberLaws as laws
 use Rattle.table.proofs.number.number_at.Statement.{statement}
 use Rattle.table.proofs.number.number_at.Tie as tie

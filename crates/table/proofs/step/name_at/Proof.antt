@@ -5,7 +5,7 @@ use native.Mathlib.Nat.{le-antisymm}
 use lib.Dec.{lit≤}
 use Rattle.table.specs.Number.{many, counted}
 use Rattle.table.specs.Table.{nameByteAt, nameAt}
-use Rattle.table.proofs.FitLaws.{next-le, next-fits, left-less, near}
+use Rattle.buffers.proofs.IndexLaws.{next-le, next-fits, nearer, near}
 use Rattle.table.proofs.ManyLaws.{after, counted-start, counted-next, counted-fault, counted-end}
 use Rattle.table.proofs.NameLaws as byte
 use Rattle.table.proofs.step.name_at.Statement.{statement}
@@ -40,7 +40,7 @@ add-i : tie.Need-add-i Inv-loop μ-loop
 add-i c = next-fits _ _ (c .before .before .before .before .loop-test .taken) (c .before .before .before .before .before .before .fits .len)
 
 loop-less : tie.Need-loop-less Inv-loop μ-loop
-loop-less c = left-less _ _ (c .before .before .before .before .loop-test .taken)
+loop-less c = nearer _ _ (c .before .before .before .before .loop-test .taken)
 
 loop-again : tie.Need-loop-again Inv-loop μ-loop
 loop-again c = (next-le _ _ (c .before .before .before .before .loop-test .taken), counted-next _ _ _ _ _ (c .before .before .before .before .before .loop .inv .1) _ _ (c .before .before .before .before .loop-test .taken) (byte.byte-good _ _ (c .before .before .before .if1 .left) (c .before .if2 .left) (c .if3 .left)))

@@ -1,7 +1,7 @@
 use lib.ListN.{length}
 use denote.Ref.{now}
 use Rattle.graph.specs.Rows.{at}
-use Rattle.relaxation.proofs.IndexLaws.{offset, below, under}
+use Rattle.buffers.proofs.IndexLaws.{offset, inside-same, inside-more}
 use Rattle.transport.proofs.ShiftLaws as laws
 use mathlib.Core.Path.{_∙_}
 use borrow.Author.Needs.{needs}
@@ -11,7 +11,7 @@ use Rattle.transport.proofs.shift.hand_over.Tie as tie
 mul-f : tie.Need-mul-f
 mul-f c =
     let s = c .before .before .before .before .before .before .before .before in
-    offset (s .args .a) (length (now (s .args .from))) (s .pre .1 .1 .1 .1 .1) (s .good .0 .1)
+    offset (s .args .a) (length (now (s .args .from))) 8 (s .pre .1 .1 .1 .1 .1) (s .good .0 .1)
 
 shared-slice-read-f : tie.Need-shared-slice-read-f
 shared-slice-read-f c = c .before .before .before .before .before .before .before .before .before .pre .1 .1 .1 .1 .1
@@ -19,44 +19,44 @@ shared-slice-read-f c = c .before .before .before .before .before .before .befor
 mul-t : tie.Need-mul-t
 mul-t c =
     let s = c .before .before .before .before .before .before .before .before .before in
-    offset (s .args .a) (length (now (s .args .from))) (s .pre .1 .1 .1 .1 .1) (s .good .0 .1)
+    offset (s .args .a) (length (now (s .args .from))) 8 (s .pre .1 .1 .1 .1 .1) (s .good .0 .1)
 
 shared-slice-read-t : tie.Need-shared-slice-read-t
 shared-slice-read-t c =
     let s = c .before .before .before .before .before .before .before .before .before .before in
-    below (s .args .a) (length (now (s .args .from))) (length (now (s .args .to))) (s .pre .1 .1 .1 .1 .1) (s .pre .0 .to-long)
+    inside-same (s .args .a) (length (now (s .args .from))) (length (now (s .args .to))) (s .pre .1 .1 .1 .1 .1) (s .pre .0 .to-long)
 
 mul-if1 : tie.Need-mul-if1
 mul-if1 c =
     let s = c .before .before .before .before .before .before .before .before .before .before in
-    offset (at (now (s .args .to)) (s .args .a)) (length (now (s .args .y)))
-    (under _ (s .args .n) _ (s .pre .0 .to-in _ (s .pre .1 .1 .1 .1 .1)) (s .pre .1 .1 .0)) (s .good .1 .1 .1 .1 .1 .0 .1)
+    offset (at (now (s .args .to)) (s .args .a)) (length (now (s .args .y))) 8
+    (inside-more _ (s .args .n) _ (s .pre .0 .to-in _ (s .pre .1 .1 .1 .1 .1)) (s .pre .1 .1 .0)) (s .good .1 .1 .1 .1 .1 .0 .1)
 
 shared-slice-read-if1 : tie.Need-shared-slice-read-if1
 shared-slice-read-if1 c =
     let s = c .before .before .before .before .before .before .before .before .before .before .before in
-    under (at (now (s .args .to)) (s .args .a)) (s .args .n) _ (s .pre .0 .to-in _ (s .pre .1 .1 .1 .1 .1)) (s .pre .1 .1 .0)
+    inside-more (at (now (s .args .to)) (s .args .a)) (s .args .n) _ (s .pre .0 .to-in _ (s .pre .1 .1 .1 .1 .1)) (s .pre .1 .1 .0)
 
 mul-if1-2 : tie.Need-mul-if1-2
 mul-if1-2 c =
     let s = c .before .before .before .before .before .before .before .before .before .before .before in
-    offset (at (now (s .args .from)) (s .args .a)) (length (now (s .args .y)))
-    (under _ (s .args .n) _ (s .pre .0 .from-in _ (s .pre .1 .1 .1 .1 .1)) (s .pre .1 .1 .0)) (s .good .1 .1 .1 .1 .1 .0 .1)
+    offset (at (now (s .args .from)) (s .args .a)) (length (now (s .args .y))) 8
+    (inside-more _ (s .args .n) _ (s .pre .0 .from-in _ (s .pre .1 .1 .1 .1 .1)) (s .pre .1 .1 .0)) (s .good .1 .1 .1 .1 .1 .0 .1)
 
 shared-slice-read-if1-2 : tie.Need-shared-slice-read-if1-2
 shared-slice-read-if1-2 c =
     let s = c .before .before .before .before .before .before .before .before .before .before .before .before in
-    under (at (now (s .args .from)) (s .args .a)) (s .args .n) _ (s .pre .0 .from-in _ (s .pre .1 .1 .1 .1 .1)) (s .pre .1 .1 .0)
+    inside-more (at (now (s .args .from)) (s .args .a)) (s .args .n) _ (s .pre .0 .from-in _ (s .pre .1 .1 .1 .1 .1)) (s .pre .1 .1 .0)
 
 mul-if1-3 : tie.Need-mul-if1-3
 mul-if1-3 c =
     let s = c .before .before .before .before .before .before .before .before .before .before .before .before in
-    offset (s .args .a) (length (now (s .args .from))) (s .pre .1 .1 .1 .1 .1) (s .good .0 .1)
+    offset (s .args .a) (length (now (s .args .from))) 8 (s .pre .1 .1 .1 .1 .1) (s .good .0 .1)
 
 shared-slice-read-if1-3 : tie.Need-shared-slice-read-if1-3
 shared-slice-read-if1-3 c =
     let s = c .before .before .before .before .before .before .before .before .before .before .before .before .before in
-    below (s .args .a) (length (now (s .args .from))) (length (now (s .args .gap))) (s .pre .1 .1 .1 .1 .1) (s .pre .0 .gap-long)
+    inside-same (s .args .a) (length (now (s .args .from))) (length (now (s .args .gap))) (s .pre .1 .1 .1 .1 .1) (s .pre .0 .gap-long)
 
 add-if1 : tie.Need-add-if1
 add-if1 c =

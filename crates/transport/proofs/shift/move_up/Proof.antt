@@ -3,7 +3,7 @@ use native.Mathlib.Omega.{arith}
 use mathlib.Core.Path.{_∙_}
 use lib.ListN.{length}
 use denote.Ref.{now}
-use Rattle.relaxation.proofs.IndexLaws.{offset, below}
+use Rattle.buffers.proofs.IndexLaws.{inside-same}
 use borrow.Author.Needs.{needs}
 use Rattle.transport.proofs.shift.move_up.Statement.{statement}
 use Rattle.transport.proofs.shift.move_up.Tie as tie
@@ -23,9 +23,9 @@ returns-2 c = c .before .before .before .before .before .before .before .before 
 cancel-at-requires : tie.Need-cancel-at-requires
 cancel-at-requires c κs =
     let s = c .before .before .before .before .before .before .before .before .before .before .before .before .before .before .before in (
-      below _ (s .args .n) (length (now (s .args .supply))) (omega (arith, c .before .before .if2 .left))
+      inside-same _ (s .args .n) (length (now (s .args .supply))) (omega (arith, c .before .before .if2 .left))
           (s .pre .1 .1 .1 .1 .0 .supply-long),
-      below _ (s .args .n) (length (now (s .args .demand)))
+      inside-same _ (s .args .n) (length (now (s .args .demand)))
           (omega (arith, c .before .before .if2 .left)) (s .pre .1 .1 .1 .1 .0 .demand-long),
     )
 
@@ -36,7 +36,7 @@ shared-slice-read-a : tie.Need-shared-slice-read-a
 shared-slice-read-a c =
     let in-if2 = c .before .before .before .before .before .before .before .before in
     let s = in-if2 .before .before .before .before .before .before .before .before .before .before .before .before .before in
-    below _ (s .args .n) (length (now (s .args .parent))) (omega (arith, in-if2 .if2 .left)) (s .pre .1 .1 .1 .1 .1)
+    inside-same _ (s .args .n) (length (now (s .args .parent))) (omega (arith, in-if2 .if2 .left)) (s .pre .1 .1 .1 .1 .1)
 
 same-length : tie.Need-same-length
 same-length c = c .before .before .before .before .before .supply .given

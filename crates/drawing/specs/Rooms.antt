@@ -1,0 +1,54 @@
+-- The room in which a chart is drawn: lists of 0s, of a length that the code fixes. There is room of two sizes.
+use mathlib.Core.Path.{_≡_}
+use mathlib.Core.List.{List}
+use Prim.Native.Nat.{ℕ, _+_, _/_, _≤_, _<_}
+use lib.ListN.{length}
+use Rattle.table.specs.Limits.{maxEdges}
+use Rattle.points.specs.Points.{pointRows, segments}
+use Rattle.points.specs.Laying.{edgesBetween}
+use Rattle.buffers.specs.Lists.{Below}
+use Rattle.barycentre.specs.Bounds.{countLimit}
+use Rattle.crossings.specs.Tally.{blockSize}
+use Rattle.fewest.specs.Drafts.{Segmented}
+
+-- points for which the smaller room is made
+abbrev pub smallPoints : ℕ
+smallPoints = 128
+
+-- segments between so many points: each edge has one more than dummies
+abbrev pub segmentRoom : ℕ → ℕ
+segmentRoom limit = limit + maxEdges
+
+-- points and segments in few enough rows for room that is made for so many points
+pub record Sketched (limit : ℕ) (row upper lower : List ℕ) (count : ℕ) : Type 0 where
+  pub segmented : Segmented row upper lower
+  pub few-points : length row ≤ limit
+  pub few-segments : length upper ≤ segmentRoom limit
+  pub few-rows : count ≤ limit
+  pub rows-in : Below count row
+
+-- room for the points and segments of a chart, and for its order
+pub record LaidRoom (ys from to row upper lower order : List ℕ) : Type 0 where
+  pub rows-fit : length (pointRows ys (edgesBetween from to)) ≤ length row
+  pub uppers-fit : length (segments ys (edgesBetween from to)) ≤ length upper
+  pub lowers-fit : length (segments ys (edgesBetween from to)) ≤ length lower
+  pub order-fits : length (pointRows ys (edgesBetween from to)) ≤ length order
+
+-- room to find the order of n points between which there are m segments, in `count` rows
+pub record Room (n m count : ℕ) (first order before pos totals moved aboveHead aboveLinks above belowHead belowLinks below saved : List ℕ) : Type 0 where
+  pub first-long : count < length first
+  pub order-long : n ≤ length order
+  pub before-long : length before ≡ length order
+  pub saved-long : length saved ≡ length order
+  pub pos-long : n ≤ length pos
+  pub pos-low : Below countLimit pos
+  pub totals-long : n ≤ length totals
+  pub totals-rows : count ≤ length totals
+  pub moved-long : n ≤ length moved
+  pub blocks-long : length moved / blockSize < length totals
+  pub above-heads : n ≤ length aboveHead
+  pub above-links : m ≤ length aboveLinks
+  pub above-counts : n ≤ length above
+  pub below-heads : n ≤ length belowHead
+  pub below-links : m ≤ length belowLinks
+  pub below-counts : n ≤ length below

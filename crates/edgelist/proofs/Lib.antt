@@ -1,0 +1,5 @@
+-- Laws by subject. A layer above wants StepLaws.
+pub mod JudgeLaws
+pub mod CallLaws
+pub mod LentLaws
+pub mod StepLaws

@@ -1,0 +1,324 @@
+// The first order with fewest crossings: of the points in their start order and after each of eight passes.
+use barycentre::count_ends;
+use buffers::copy_all;
+use crossings::count_crossings;
+use passes::pass_down;
+use passes::pass_up;
+use passes::place_all;
+use passes::start::start_order;
+use points::lists::link_points;
+ghost use mathlib.Core.Path.{_≡_};
+ghost use mathlib.Core.Bool.{true};
+ghost use Prim.Native.Nat.{_≤_};
+ghost use lib.ListN.{length};
+ghost use Rattle.passes.specs.Order.{downward};
+ghost use Rattle.fewest.specs.Fewest.{passCount};
+ghost use Rattle.passes.specs.Laid.{rowsIn};
+ghost use Rattle.points.specs.Lists.{Linked};
+ghost use Rattle.crossings.specs.Placing.{Countable};
+ghost use Rattle.fewest.specs.Drafts.{bestIn, Segmented, ListRoom, Prepared, Roomy, Scratch, Passable, Improving, Bettered, Keeping, Judged, DrawingHeld};
+
+// A pass down and a pass up, as often.
+const PASS_PAIRS: usize = 4;
+
+// Of points in their rows and the ends of segments: the first order with fewest crossings, of the start and eight passes, to the first
+// entries of `saved`. Answers its crossings. All else that is lent is room for the work.
+pub fn find_fewest(
+    row: &[usize],
+    upper: &[usize],
+    lower: &[usize],
+    first: &mut [usize],
+    order: &mut [usize],
+    before: &mut [usize],
+    pos: &mut [usize],
+    totals: &mut [usize],
+    moved: &mut [usize],
+    above_head: &mut [usize],
+    above_next: &mut [usize],
+    above: &mut [usize],
+    below_head: &mut [usize],
+    below_next: &mut [usize],
+    below: &mut [usize],
+    saved: &mut [usize],
+) -> usize
+    requires { ⌜ Segmented (now row) (now upper) (now lower) ⌝ }
+    requires { ⌜ ListRoom (now row) (now lower) (now «above_head») (now «above_next») (now above) ⌝ }
+    requires { ⌜ ListRoom (now row) (now upper) (now «below_head») (now «below_next») (now below) ⌝ }
+    requires { ⌜ Roomy (now row) (now first) (now order) (now pos) (now saved) ⌝ }
+    requires { ⌜ Scratch (now row) (now totals) (now moved) ⌝ }
+    requires { ⌜ rowsIn (now first) ≤ length (now totals) ⌝ }
+    requires { ⌜ length (now before) ≡ length (now order) ⌝ }
+    ensures { λ r. ⌜ DrawingHeld (bestIn (now (row .entry)) (now (upper .entry)) (now (lower .entry)) (now (first .entry))) (now (saved .exit)) r ⌝ }
+{
+    prepare_ends(
+        row,
+        upper,
+        lower,
+        above_head,
+        above_next,
+        above,
+        below_head,
+        below_next,
+        below,
+    );
+    let crossings = start_drawing(
+        row,
+        upper,
+        lower,
+        below_head,
+        below_next,
+        first,
+        order,
+        pos,
+        totals,
+        moved,
+        saved,
+    );
+    improve_drawing(
+        row,
+        upper,
+        lower,
+        above_head,
+        above_next,
+        above,
+        below_head,
+        below_next,
+        below,
+        first,
+        order,
+        before,
+        pos,
+        totals,
+        moved,
+        saved,
+        crossings,
+    )
+}
+
+// What no pass changes: the segments above and below each point, listed and counted.
+fn prepare_ends(
+    row: &[usize],
+    upper: &[usize],
+    lower: &[usize],
+    above_head: &mut [usize],
+    above_next: &mut [usize],
+    above: &mut [usize],
+    below_head: &mut [usize],
+    below_next: &mut [usize],
+    below: &mut [usize],
+)
+    requires { ⌜ Segmented (now row) (now upper) (now lower) ⌝ }
+    requires { ⌜ ListRoom (now row) (now lower) (now «above_head») (now «above_next») (now above) ⌝ }
+    requires { ⌜ ListRoom (now row) (now upper) (now «below_head») (now «below_next») (now below) ⌝ }
+    ensures { λ _. ⌜ Prepared (now (row .entry)) (now (upper .entry)) (now (lower .entry)) (now («above_head» .exit)) (now («above_next» .exit)) (now (above .exit)) (now («below_head» .exit)) (now («below_next» .exit)) (now (below .exit)) ⌝ }
+{
+    link_points(lower, above_head, above_next);
+    count_ends(lower, above);
+    link_points(upper, below_head, below_next);
+    count_ends(upper, below);
+}
+
+// The start order, with its positions, as the best so far. Answers its crossings; `head` and `next` have the lists by upper end.
+fn start_drawing(
+    row: &[usize],
+    upper: &[usize],
+    lower: &[usize],
+    head: &[usize],
+    next: &[usize],
+    first: &mut [usize],
+    order: &mut [usize],
+    pos: &mut [usize],
+    totals: &mut [usize],
+    moved: &mut [usize],
+    saved: &mut [usize],
+) -> usize
+    requires { ⌜ Segmented (now row) (now upper) (now lower) ⌝ }
+    requires { ⌜ Linked (now upper) (now head) (now next) ⌝ }
+    requires { ⌜ length (now row) ≤ length (now head) ⌝ }
+    requires { ⌜ Roomy (now row) (now first) (now order) (now pos) (now saved) ⌝ }
+    requires { ⌜ Scratch (now row) (now totals) (now moved) ⌝ }
+    requires { ⌜ rowsIn (now first) ≤ length (now totals) ⌝ }
+    ensures { λ r. ⌜ Improving (now (row .entry)) (now (upper .entry)) (now (lower .entry)) (now (first .exit)) passCount downward (now (order .exit)) (now (pos .exit)) (now (saved .exit)) r ⌝ }
+{
+    let count = first.len() - 1;
+    start_order(row, count, order, first, totals, moved);
+    place_all(order, first, pos);
+    copy_all(order, saved);
+    count_crossings(order, first, head, next, lower, pos, moved, totals)
+}
+
+// The passes, down and up in turn, each followed by a look at the crossings. Answers the fewest. Where a pass down and a pass up leave the
+// order as it was before them, so do all that would follow, and these are left out.
+fn improve_drawing(
+    row: &[usize],
+    upper: &[usize],
+    lower: &[usize],
+    above_head: &[usize],
+    above_next: &[usize],
+    above: &[usize],
+    below_head: &[usize],
+    below_next: &[usize],
+    below: &[usize],
+    first: &[usize],
+    order: &mut [usize],
+    before: &mut [usize],
+    pos: &mut [usize],
+    totals: &mut [usize],
+    moved: &mut [usize],
+    saved: &mut [usize],
+    crossings: usize,
+) -> usize
+    requires { ⌜ Prepared (now row) (now upper) (now lower) (now «above_head») (now «above_next») (now above) (now «below_head») (now «below_next») (now below) ⌝ }
+    requires { ⌜ Improving (now row) (now upper) (now lower) (now first) passCount downward (now order) (now pos) (now saved) crossings ⌝ }
+    requires { ⌜ Scratch (now row) (now totals) (now moved) ⌝ }
+    requires { ⌜ length (now before) ≡ length (now order) ⌝ }
+    ensures { λ r. ⌜ DrawingHeld (bestIn (now (row .entry)) (now (upper .entry)) (now (lower .entry)) (now (first .entry))) (now (saved .exit)) r ⌝ }
+{
+    let mut fewest = crossings;
+    let mut k = 0;
+    while k < PASS_PAIRS {
+        copy_all(order, before);
+        fewest = pass_both(
+            row,
+            upper,
+            lower,
+            above_head,
+            above_next,
+            above,
+            below_head,
+            below_next,
+            below,
+            first,
+            order,
+            pos,
+            totals,
+            moved,
+            saved,
+            fewest,
+        );
+        if is_same(before, order) {
+            return fewest;
+        }
+        k += 1;
+    }
+    fewest
+}
+
+// A pass down and a pass up. Answers the fewest crossings so far.
+fn pass_both(
+    row: &[usize],
+    upper: &[usize],
+    lower: &[usize],
+    above_head: &[usize],
+    above_next: &[usize],
+    above: &[usize],
+    below_head: &[usize],
+    below_next: &[usize],
+    below: &[usize],
+    first: &[usize],
+    order: &mut [usize],
+    pos: &mut [usize],
+    totals: &mut [usize],
+    moved: &mut [usize],
+    saved: &mut [usize],
+    fewest: usize,
+) -> usize
+    requires { ⌜ Prepared (now row) (now upper) (now lower) (now «above_head») (now «above_next») (now above) (now «below_head») (now «below_next») (now below) ⌝ }
+    requires { ⌜ Passable (now row) (now first) (now order) (now pos) (now totals) (now moved) (now saved) ⌝ }
+    ensures { λ r. ⌜ Bettered (now (row .entry)) (now (upper .entry)) (now (lower .entry)) (now (first .entry)) (now (order .entry)) (now (pos .entry)) (now (saved .entry)) fewest (now (order .exit)) (now (pos .exit)) (now (saved .exit)) r ⌝ }
+{
+    pass_down(
+        upper,
+        above_head,
+        above_next,
+        above,
+        first,
+        order,
+        pos,
+        totals,
+        moved,
+    );
+    let kept = keep_better(
+        below_head,
+        below_next,
+        lower,
+        first,
+        order,
+        pos,
+        moved,
+        totals,
+        saved,
+        fewest,
+    );
+    pass_up(
+        lower,
+        below_head,
+        below_next,
+        below,
+        first,
+        order, // as the pass down left it
+        pos,
+        totals,
+        moved,
+    );
+    keep_better(
+        below_head,
+        below_next,
+        lower,
+        first,
+        order,
+        pos,
+        moved,
+        totals,
+        saved,
+        kept,
+    )
+}
+
+// The order kept if it has fewer crossings than the best so far. Answers the fewest.
+fn keep_better(
+    head: &[usize],
+    next: &[usize],
+    lower: &[usize],
+    first: &[usize],
+    order: &[usize],
+    pos: &[usize],
+    counts: &mut [usize],
+    blocks: &mut [usize],
+    saved: &mut [usize],
+    fewest: usize,
+) -> usize
+    requires { ⌜ Countable (now order) (now first) (now head) (now next) (now lower) (now pos) (now counts) (now blocks) ⌝ }
+    requires { ⌜ length (now saved) ≡ length (now order) ⌝ }
+    ensures { λ r. ⌜ Judged (now (first .entry)) (now (head .entry)) (now (next .entry)) (now (lower .entry)) (now (order .entry)) (now (pos .entry)) (now (saved .entry)) fewest (now (saved .exit)) r ⌝ }
+{
+    let crossings = count_crossings(order, first, head, next, lower, pos, counts, blocks);
+    keep_fewer(order, crossings, saved, fewest)
+}
+
+// An order with fewer crossings than the best so far takes its place. Answers the fewer.
+fn keep_fewer(order: &[usize], crossings: usize, saved: &mut [usize], fewest: usize) -> usize
+    requires { ⌜ length (now saved) ≡ length (now order) ⌝ }
+    ensures { λ r. ⌜ Keeping (now (order .entry)) crossings (now (saved .entry)) fewest (now (saved .exit)) r ⌝ }
+{
+    if crossings < fewest {
+        copy_all(order, saved);
+        return crossings;
+    }
+    fewest
+}
+
+// Are two lists of the same length the same.
+fn is_same(a: &[usize], b: &[usize]) -> bool
+    requires { ⌜ length (now a) ≡ length (now b) ⌝ }
+    ensures { λ r. ⌜ (r ≡ true → now (a .entry) ≡ now (b .entry)) ⌝ }
+{
+    let mut i = 0;
+    while i < a.len() {
+        if a[i] != b[i] {
+            return false;
+        }
+        i += 1;
+    }
+    true
+}

@@ -1,0 +1,14 @@
+-- What a line of a listing is, and the line of a refusal.
+use mathlib.Core.List.{List, [], _∷_, _++_, map}
+use Prim.Native.Nat.{ℕ}
+use Rattle.outcome.specs.declared.Refusal.{Refusal}
+use Rattle.outcome.specs.Refusal.{numbersOf}
+use Rattle.labels.specs.Text.{text, newline, decimal, blanked}
+
+-- a line: its first field, the others, and the byte that ends it
+abbrev pub line : List ℕ → List (List ℕ) → List ℕ
+line first rest = first ++ blanked rest ++ newline ∷ []
+
+-- its number, and for a loop the step
+abbrev pub refusalText : Refusal → List ℕ
+refusalText r = line (text "refused") (map decimal (numbersOf r))

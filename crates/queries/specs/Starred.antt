@@ -1,0 +1,18 @@
+-- The starred cases of document 01 that the reader alone decides.
+use mathlib.Core.List.{List, [], _∷_}
+use Rattle.table.specs.Hex.{hex}
+use Rattle.table.specs.Starred.{Case, case}
+
+-- with each table the numbers of the counts call
+abbrev pub starredCounts : List Case
+starredCounts =
+    case (hex "01 00 00") (0 ∷ 0 ∷ 0 ∷ []) ∷
+    case (hex "81 00 00 00") (0 ∷ 0 ∷ 0 ∷ []) ∷
+    case (hex "") (1 ∷ []) ∷
+    case (hex "02") (3 ∷ []) ∷
+    case (hex "80 80 80") (2 ∷ []) ∷
+    case (hex "01 40") (1 ∷ []) ∷
+    case (hex "01 41") (4 ∷ []) ∷
+    case (hex "01 00 00 00") (10 ∷ []) ∷
+    case (hex "01 01 00 01 41 01 00 00") (9 ∷ []) ∷
+    []

@@ -1,0 +1,3 @@
+-- What is found for edges, and what is answered of it.
+pub mod Answers
+pub mod Placed
