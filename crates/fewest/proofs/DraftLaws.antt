@@ -1,4 +1,4 @@
--- A drawing on its way: lists that stand ready, one pass with its look at the crossings, and the turns of the loop over the passes.
+-- A drawing on its way: lists that stand ready, one pass with its look at the crossings, and a pass down with a pass up.
 use mathlib.Core.Path.{_≡_, refl, sym, ap, _∙_, subst}
 use mathlib.Core.List.{List, [], _∷_, flatten, tail}
 use Prim.Native.Nat.{ℕ, zero, suc, _+_, _-_, _≤_, _<_}
@@ -16,11 +16,12 @@ use Rattle.passes.specs.Laid.{segmentsIn, rowsIn, Laid, SegmentEnds, Standing, 
 use Rattle.points.specs.Lists.{Linked}
 use Rattle.barycentre.specs.Steps.{Counted}
 use Rattle.crossings.specs.Placing.{placedBy, Countable}
-use Rattle.fewest.specs.Drafts.{bestIn, Segmented, Prepared, Scratch, Passable, Improving, Bettered, Keeping, kept, replaced, Judged, DrawingHeld}
+use Rattle.fewest.specs.Drafts.{bestIn, Segmented, Prepared, Scratch, Passable, Improving, Bettered, DrawingHeld}
+use Rattle.judging.specs.Judging.{Keeping, kept, replaced, Judged}
 use Rattle.points.specs.Positions.{rowAt}
 use Rattle.passes.proofs.LaidLaws.{points-end, row-part}
 use Rattle.crossings.proofs.PlacingLaws.{crossings-placed}
-use Rattle.fewest.proofs.AgreeLaws.{lists-agree}
+use Rattle.judging.proofs.AgreeLaws.{lists-agree}
 use Rattle.fewest.proofs.CountableLaws.{laid-lists, laid-countable}
 use Rattle.fewest.proofs.FewestLaws.{rest-better, rest-kept, rest-end, rest-still}
 
@@ -216,7 +217,7 @@ same-rows {row} {order} {order′} {first} {o = o} {o′ = o′} h h′ e =
     ∙ row-part row (rowsIn first) o order first (h .ranked) r (omega (arith, h′ .ranked .rows))
 
 -- the best so far is the drawing that is handed out
-best-held : {row upper lower first order pos saved : List ℕ} {left fewest : ℕ} {d : Direction} (i : Improving row upper lower first left d order pos saved fewest)
+pub best-held : {row upper lower first order pos saved : List ℕ} {left fewest : ℕ} {d : Direction} (i : Improving row upper lower first left d order pos saved fewest)
     → bestIn row upper lower first ≡ drawn row (segmentsIn upper lower) (i .best) → DrawingHeld (bestIn row upper lower first) saved fewest
 unfolding drawn
 best-held {row} {saved = saved} {fewest = fewest} i e =
@@ -278,51 +279,3 @@ module _ {row upper lower aboveHead aboveNext above belowHead belowNext below fi
 
   pub bettered-twice : Bettered row upper lower first order pos saved fewest order″ pos″ saved″ fewest″
   bettered-twice = record { steps = after-both; still = none-better }
-
--- ---- the loop over pairs of passes
-
--- after k pairs as many passes are left as make up the whole
-pub record Turning (row upper lower first : List ℕ) (k : ℕ) (order pos saved : List ℕ) (fewest : ℕ) : Type 0 where
-  pub left : ℕ
-  pub makes : left + (k + k) ≡ passCount
-  pub improving : Improving row upper lower first left downward order pos saved fewest
-
-module _ {row upper lower first order pos saved : List ℕ} {fewest : ℕ} where
-  pub turning-start : Improving row upper lower first passCount downward order pos saved fewest → Turning row upper lower first 0 order pos saved fewest
-  turning-start i = record { left = passCount; makes = refl; improving = i }
-
-  pub turning-passable : {k : ℕ} {totals moved : List ℕ} → Turning row upper lower first k order pos saved fewest → Scratch row totals moved
-      → Passable row first order pos totals moved saved
-  turning-passable t s = record { o = t .improving .o; laid = t .improving .laid; scratch = s; same = t .improving .same }
-
-  pub turning-more : {k : ℕ} {order′ pos′ saved′ : List ℕ} {fewest′ : ℕ} → k < 4 → Turning row upper lower first k order pos saved fewest
-      → Bettered row upper lower first order pos saved fewest order′ pos′ saved′ fewest′
-      → Turning row upper lower first (k + 1) order′ pos′ saved′ fewest′
-  turning-more {k} {order′} {pos′} {saved′} {fewest′} h t b = go (t .left) (t .makes) (t .improving)
-    where
-      go : (left : ℕ) → left + (k + k) ≡ passCount → Improving row upper lower first left downward order pos saved fewest
-          → Turning row upper lower first (k + 1) order′ pos′ saved′ fewest′
-      go zero e i = absurd (omega arith)
-      go (suc zero) e i = absurd (omega arith)
-      go (suc (suc left)) e i = record { left = left; makes = omega arith; improving = b .steps left i }
-
-  -- no pass is left: the best so far is the drawing
-  pub turning-end : {k : ℕ} → 4 ≤ k → Turning row upper lower first k order pos saved fewest → DrawingHeld (bestIn row upper lower first) saved fewest
-  unfolding drawn
-  turning-end {k} h t = go (t .left) (omega (arith, t .makes)) (t .improving)
-    where
-      go : (left : ℕ) → left ≤ 0 → Improving row upper lower first left downward order pos saved fewest → DrawingHeld (bestIn row upper lower first) saved fewest
-      go (suc left) e i = absurd (omega arith)
-      go zero e i = best-held i (i .rest ∙ rest-end row (segmentsIn upper lower) (i .best) downward (i .o))
-
-  -- a pair of passes that moved nothing
-  pub turning-still : {k : ℕ} {order′ pos′ saved′ : List ℕ} {fewest′ : ℕ} → k < 4 → Turning row upper lower first k order pos saved fewest
-      → Bettered row upper lower first order pos saved fewest order′ pos′ saved′ fewest′ → order′ ≡ order
-      → DrawingHeld (bestIn row upper lower first) saved′ fewest′
-  turning-still {k} {order′} {pos′} {saved′} {fewest′} h t b same = go (t .left) (t .makes) (t .improving)
-    where
-      go : (left : ℕ) → left + (k + k) ≡ passCount → Improving row upper lower first left downward order pos saved fewest
-          → DrawingHeld (bestIn row upper lower first) saved′ fewest′
-      go zero e i = absurd (omega arith)
-      go (suc zero) e i = absurd (omega arith)
-      go (suc (suc left)) e i = b .still left i same

@@ -1,7 +1,7 @@
-pub mod AgreeLaws
 pub mod FewestLaws
 pub mod CountableLaws
 pub mod DraftLaws
+pub mod TurnLaws
 pub mod StartedLaws
 pub mod CompleteLaws
 pub mod SampleLaws

@@ -12,7 +12,6 @@ use Rattle.buffers.specs.Lists.{Below}
 use Rattle.barycentre.specs.Bounds.{countLimit}
 use Rattle.passes.specs.Laid.{segmentsIn, rowsIn, SegmentEnds, Laid}
 use Rattle.crossings.specs.Tally.{blockSize}
-use Rattle.crossings.specs.Placing.{ChartCrossings}
 
 -- What a loop over the passes has left to do: the best so far against the results of the k passes that are left, the next one in
 -- direction d on the order o.
@@ -89,14 +88,3 @@ pub record Bettered (row upper lower first : List ℕ) (order pos saved : List �
       → Improving row upper lower first left downward order′ pos′ saved′ fewest′
   pub still : (left : ℕ) → Improving row upper lower first (suc (suc left)) downward order pos saved fewest → order′ ≡ order
       → DrawingHeld (bestIn row upper lower first) saved′ fewest′
-
--- An order against the best so far: with as many crossings or more it is not kept, with fewer it takes the place of the best.
-pub data Keeping (order : List ℕ) (crossings : ℕ) (saved : List ℕ) (fewest : ℕ) (saved′ : List ℕ) (fewest′ : ℕ) : Type 0 where
-  kept : fewest ≤ crossings → fewest′ ≡ fewest → saved′ ≡ saved → Keeping order crossings saved fewest saved′ fewest′
-  replaced : crossings < fewest → fewest′ ≡ crossings → saved′ ≡ order → Keeping order crossings saved fewest saved′ fewest′
-
--- the same for the order in the lists, whose crossings are counted
-pub record Judged (first head next lower order pos saved : List ℕ) (fewest : ℕ) (saved′ : List ℕ) (fewest′ : ℕ) : Type 0 where
-  pub crossings : ℕ
-  pub counted : ChartCrossings order first head next lower pos crossings
-  pub keeping : Keeping order crossings saved fewest saved′ fewest′

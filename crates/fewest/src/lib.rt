@@ -2,21 +2,21 @@
 use barycentre::count_ends;
 use buffers::copy_all;
 use crossings::count_crossings;
+use judging::is_same;
+use judging::keep_better;
 use passes::pass_down;
 use passes::pass_up;
 use passes::place_all;
 use passes::start::start_order;
 use points::lists::link_points;
 ghost use mathlib.Core.Path.{_≡_};
-ghost use mathlib.Core.Bool.{true};
 ghost use Prim.Native.Nat.{_≤_};
 ghost use lib.ListN.{length};
 ghost use Rattle.passes.specs.Order.{downward};
 ghost use Rattle.fewest.specs.Fewest.{passCount};
 ghost use Rattle.passes.specs.Laid.{rowsIn};
 ghost use Rattle.points.specs.Lists.{Linked};
-ghost use Rattle.crossings.specs.Placing.{Countable};
-ghost use Rattle.fewest.specs.Drafts.{bestIn, Segmented, ListRoom, Prepared, Roomy, Scratch, Passable, Improving, Bettered, Keeping, Judged, DrawingHeld};
+ghost use Rattle.fewest.specs.Drafts.{bestIn, Segmented, ListRoom, Prepared, Roomy, Scratch, Passable, Improving, Bettered, DrawingHeld};
 
 // A pass down and a pass up, as often.
 const PASS_PAIRS: usize = 4;
@@ -273,52 +273,4 @@ fn pass_both(
         saved,
         kept,
     )
-}
-
-// The order kept if it has fewer crossings than the best so far. Answers the fewest.
-fn keep_better(
-    head: &[usize],
-    next: &[usize],
-    lower: &[usize],
-    first: &[usize],
-    order: &[usize],
-    pos: &[usize],
-    counts: &mut [usize],
-    blocks: &mut [usize],
-    saved: &mut [usize],
-    fewest: usize,
-) -> usize
-    requires { ⌜ Countable (now order) (now first) (now head) (now next) (now lower) (now pos) (now counts) (now blocks) ⌝ }
-    requires { ⌜ length (now saved) ≡ length (now order) ⌝ }
-    ensures { λ r. ⌜ Judged (now (first .entry)) (now (head .entry)) (now (next .entry)) (now (lower .entry)) (now (order .entry)) (now (pos .entry)) (now (saved .entry)) fewest (now (saved .exit)) r ⌝ }
-{
-    let crossings = count_crossings(order, first, head, next, lower, pos, counts, blocks);
-    keep_fewer(order, crossings, saved, fewest)
-}
-
-// An order with fewer crossings than the best so far takes its place. Answers the fewer.
-fn keep_fewer(order: &[usize], crossings: usize, saved: &mut [usize], fewest: usize) -> usize
-    requires { ⌜ length (now saved) ≡ length (now order) ⌝ }
-    ensures { λ r. ⌜ Keeping (now (order .entry)) crossings (now (saved .entry)) fewest (now (saved .exit)) r ⌝ }
-{
-    if crossings < fewest {
-        copy_all(order, saved);
-        return crossings;
-    }
-    fewest
-}
-
-// Are two lists of the same length the same.
-fn is_same(a: &[usize], b: &[usize]) -> bool
-    requires { ⌜ length (now a) ≡ length (now b) ⌝ }
-    ensures { λ r. ⌜ (r ≡ true → now (a .entry) ≡ now (b .entry)) ⌝ }
-{
-    let mut i = 0;
-    while i < a.len() {
-        if a[i] != b[i] {
-            return false;
-        }
-        i += 1;
-    }
-    true
 }

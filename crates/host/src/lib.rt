@@ -1,31 +1,21 @@
 // The calls for C. Slices are a pointer and a length; answers are packed into one word. Each contract says what the header's functions read
 // out of the word, in the numbers that the call tells, which word it is, and what the lent buffers hold at the end. All of it is in
-// specs/Words.antt and in the specs of the layers below.
+// the specs of `words` and of the layers below.
 use ordering::ChartAnswer;
-use ordering::Figures;
-use outcome::Refusal;
 use queries::types::CountsAnswer;
 use queries::types::NameAnswer;
 use rows::types::RowsAnswer;
+use words::SECOND;
+use words::THIRD;
+use words::figures_word;
+use words::refusal_word;
 ghost use mathlib.Core.Path.{_≡_};
-ghost use mathlib.Core.List.{_∷_};
-ghost use Prim.Native.Nat.{_<_};
-ghost use Rattle.outcome.specs.Refusal.{numbersOf, stepOf};
 ghost use Rattle.queries.specs.Calls.{countsCall, nameCall};
 ghost use Rattle.flatten.specs.Records.{recordsOf};
 ghost use Rattle.edgelist.specs.Calls.{recordCall, RecordsBest};
 ghost use Rattle.layering.specs.Calls.{rowsCall, TableBest};
-ghost use Rattle.ordering.specs.Calls.{figuresNumbers, chartCall, ChartBest};
-ghost use Rattle.ordering.specs.Charting.{Small};
-ghost use Rattle.host.specs.Words.{second, countsRead, countsWord, nameRead, nameWord, doneRead, doneWord, chartRead, chartWord};
-
-const SECOND: usize = 0x100;
-
-const THIRD: usize = 0x10000;
-
-const TOTAL: usize = 0x80000;
-
-const CROSSINGS: usize = 0x100000000000;
+ghost use Rattle.ordering.specs.Calls.{chartCall, ChartBest};
+ghost use Rattle.words.specs.Words.{countsRead, countsWord, nameRead, nameWord, doneRead, doneWord, chartRead, chartWord};
 
 // The steps and the edges of a table.
 #[no_mangle]
@@ -91,43 +81,5 @@ pub extern "C" fn yuvatondro_chart(table: &[u8], rows: &mut [u8], order: &mut [u
     match ordering::draw_chart(table, rows, order) {
         ChartAnswer::Refused(f) => refusal_word(f),
         ChartAnswer::Drawn(f) => figures_word(f),
-    }
-}
-
-// The numbers that go with a chart as a word.
-fn figures_word(f: Figures) -> u64
-    requires { ⌜ Small f ⌝ }
-    ensures { λ r. ⌜ r ≡ chartWord (0 ∷ figuresNumbers f) ⌝ }
-{
-    (f.points * SECOND + f.total * TOTAL + f.crossings * CROSSINGS) as u64
-}
-
-// A refusal as a word.
-fn refusal_word(f: Refusal) -> u64
-    requires { ⌜ stepOf f < second ⌝ }
-    ensures { λ r. ⌜ r ≡ doneWord (numbersOf f) ⌝ }
-{
-    (outcome::number_of(f) + loop_step(f) * SECOND) as u64
-}
-
-// The step that comes with a loop; 0 with any other refusal.
-fn loop_step(f: Refusal) -> usize
-    ensures { λ r. ⌜ r ≡ stepOf f ⌝ }
-{
-    match f {
-        Refusal::Loop(s) => s,
-        Refusal::Cut => 0,
-        Refusal::Overlong => 0,
-        Refusal::BadEdition => 0,
-        Refusal::ManySteps => 0,
-        Refusal::BadKind => 0,
-        Refusal::OutOfRange => 0,
-        Refusal::BadNameByte => 0,
-        Refusal::ManyEdges => 0,
-        Refusal::BadEnd => 0,
-        Refusal::Spare => 0,
-        Refusal::ManyPoints => 0,
-        Refusal::ShortBuffer => 0,
-        Refusal::NoStep => 0,
     }
 }

@@ -3,8 +3,9 @@ use mathlib.Core.Path.{_≡_, refl, sym, _∙_}
 use Prim.Native.Nat.{_-_}
 use native.Mathlib.Omega.{arith}
 use lib.ListN.{length}
-use Rattle.fewest.proofs.DraftLaws.{Turning}
-use Rattle.fewest.proofs.DraftLaws as laws
+use Rattle.fewest.proofs.DraftLaws.{scratch-same}
+use Rattle.fewest.proofs.TurnLaws.{Turning}
+use Rattle.fewest.proofs.TurnLaws as laws
 use Rattle.fewest.proofs.improve_drawing.Statement.{statement}
 use Rattle.fewest.proofs.improve_drawing.Tie as tie
 
@@ -33,7 +34,7 @@ pass-both-requires c κs =
     .before .before .before .before in
     let s = start .pre in
     let i = at-loop .loop .inv in
-    (s .0, laws.turning-passable (i .0) (laws.scratch-same (s .1 .1 .0) (i .4) (i .5)))
+    (s .0, laws.turning-passable (i .0) (scratch-same (s .1 .1 .0) (i .4) (i .5)))
 
 is-same-requires : tie.Need-is-same-requires Inv-loop μ-loop
 is-same-requires c κs =

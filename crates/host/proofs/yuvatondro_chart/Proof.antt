@@ -4,7 +4,7 @@ use mathlib.Core.Path.{sym, ap, _∙_}
 use Rattle.ordering.specs.Calls.{chartNumbers}
 use Rattle.ordering.proofs.FigureLaws.{figures-small}
 use Rattle.ordering.proofs.StepLaws.{chart-call-step}
-use Rattle.host.proofs.WordLaws.{chart-refused, chart-told, chart-same}
+use Rattle.words.proofs.WordLaws.{chart-refused, chart-told, chart-same}
 use borrow.Author.Needs.{needs}
 use Rattle.host.proofs.yuvatondro_chart.Statement.{statement}
 use Rattle.host.proofs.yuvatondro_chart.Tie as tie

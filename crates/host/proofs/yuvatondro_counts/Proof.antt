@@ -4,11 +4,11 @@ use mathlib.Core.Path.{sym, ap, _∙_}
 use Prim.Native.Nat.{_<_}
 use Rattle.outcome.specs.Refusal.{stepOf}
 use Rattle.queries.specs.Calls.{countsNumbers}
-use Rattle.host.specs.Words.{second}
+use Rattle.words.specs.Words.{second}
 use Rattle.table.proofs.RangeLaws.{read-range}
 use Rattle.outcome.proofs.ToldLaws.{alone}
 use Rattle.queries.proofs.CountLaws.{counts-not, counts-low}
-use Rattle.host.proofs.WordLaws.{counts-refused, counts-told}
+use Rattle.words.proofs.WordLaws.{counts-refused, counts-told}
 use borrow.Author.Needs.{needs}
 use Rattle.host.proofs.yuvatondro_counts.Statement.{statement}
 use Rattle.host.proofs.yuvatondro_counts.Tie as tie

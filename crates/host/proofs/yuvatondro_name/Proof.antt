@@ -3,7 +3,7 @@ use native.Mathlib.Omega.{arith}
 use mathlib.Core.Path.{sym, ap, _∙_}
 use Rattle.queries.specs.Calls.{nameNumbers}
 use Rattle.queries.proofs.NameLaws.{answer-found, answer-refused, name-alone, name-low}
-use Rattle.host.proofs.WordLaws.{name-refused, name-told}
+use Rattle.words.proofs.WordLaws.{name-refused, name-told}
 use borrow.Author.Needs.{needs}
 use Rattle.host.proofs.yuvatondro_name.Statement.{statement}
 use Rattle.host.proofs.yuvatondro_name.Tie as tie

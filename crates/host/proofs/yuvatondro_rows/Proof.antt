@@ -3,7 +3,7 @@ use native.Mathlib.Omega.{arith}
 use mathlib.Core.Path.{sym, ap, _∙_}
 use Rattle.rows.specs.Answers.{rowsNumbers}
 use Rattle.layering.proofs.StepLaws.{rows-call-step}
-use Rattle.host.proofs.WordLaws.{done-refused, done-told, same-told}
+use Rattle.words.proofs.WordLaws.{done-refused, done-told, same-told}
 use borrow.Author.Needs.{needs}
 use Rattle.host.proofs.yuvatondro_rows.Statement.{statement}
 use Rattle.host.proofs.yuvatondro_rows.Tie as tie

@@ -10,7 +10,7 @@ use Rattle.outcome.specs.Refusal.{numbersOf, stepOf, refusalIn}
 use Rattle.ordering.specs.declared.Figures.{Figures}
 use Rattle.ordering.specs.Calls.{figuresNumbers, ChartBest}
 use Rattle.ordering.specs.Charting.{Small}
-use Rattle.host.specs.Words.{wordSteps, wordEdges, wordNameStart, wordNameLength, wordPoints, wordTotal, wordCrossings, wordRead, doneRead, countsRead, nameRead, chartRead, second, third, totalUnit, crossingsUnit, doneWord, countsWord, nameWord, chartWord}
+use Rattle.words.specs.Words.{wordSteps, wordEdges, wordNameStart, wordNameLength, wordPoints, wordTotal, wordCrossings, wordRead, doneRead, countsRead, nameRead, chartRead, second, third, totalUnit, crossingsUnit, doneWord, countsWord, nameWord, chartWord}
 
 -- ---- refusals
 

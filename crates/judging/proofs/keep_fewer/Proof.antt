@@ -1,9 +1,9 @@
 -- An order with fewer crossings is copied, and one with as many or more is not.
 use mathlib.Core.Path.{refl}
 use borrow.Author.Needs.{needs}
-use Rattle.fewest.specs.Drafts.{kept, replaced}
-use Rattle.fewest.proofs.keep_fewer.Statement.{statement}
-use Rattle.fewest.proofs.keep_fewer.Tie as tie
+use Rattle.judging.specs.Judging.{kept, replaced}
+use Rattle.judging.proofs.keep_fewer.Statement.{statement}
+use Rattle.judging.proofs.keep_fewer.Tie as tie
 
 copy-all-requires : tie.Need-copy-all-requires
 copy-all-requires c κs = c .before .before .before .before .pre

@@ -6,9 +6,9 @@ use native.Mathlib.Omega.{arith}
 use lib.ListN.{length}
 use denote.Ref.{now}
 use Rattle.graph.specs.Rows.{at}
-use Rattle.fewest.proofs.AgreeLaws.{lists-agree, agree-more}
-use Rattle.fewest.proofs.is_same.Statement.{statement}
-use Rattle.fewest.proofs.is_same.Tie as tie
+use Rattle.judging.proofs.AgreeLaws.{lists-agree, agree-more}
+use Rattle.judging.proofs.is_same.Statement.{statement}
+use Rattle.judging.proofs.is_same.Tie as tie
 
 abbrev Inv-loop : tie.InvT-loop
 Inv-loop a b i₀ i = (i ≤ length a) × ((j : ℕ) → j < i → at a j ≡ at b j)

@@ -1,8 +1,8 @@
 use native.Mathlib.Omega.{arith}
 use Rattle.outcome.proofs.ToldLaws.{number-low}
 use borrow.Author.Needs.{needs}
-use Rattle.host.proofs.refusal_word.Statement.{statement}
-use Rattle.host.proofs.refusal_word.Tie as tie
+use Rattle.words.proofs.refusal_word.Statement.{statement}
+use Rattle.words.proofs.refusal_word.Tie as tie
 
 number-of-requires : tie.Need-number-of-requires
 number-of-requires c κs = search needs

@@ -1,0 +1,58 @@
+// The words in which calls answer C: several numbers in 64 bits. specs/Words.antt says which bits, and what the functions of the header
+// read out of them.
+use ordering::Figures;
+use outcome::Refusal;
+ghost use mathlib.Core.Path.{_≡_};
+ghost use mathlib.Core.List.{_∷_};
+ghost use Prim.Native.Nat.{_<_};
+ghost use Rattle.outcome.specs.Refusal.{numbersOf, stepOf};
+ghost use Rattle.ordering.specs.Calls.{figuresNumbers};
+ghost use Rattle.ordering.specs.Charting.{Small};
+ghost use Rattle.words.specs.Words.{second, doneWord, chartWord};
+
+// Where the numbers of a word start: behind the low byte, behind the next, and the total and the crossings of a chart.
+pub const SECOND: usize = 0x100;
+
+pub const THIRD: usize = 0x10000;
+
+const TOTAL: usize = 0x80000;
+
+const CROSSINGS: usize = 0x100000000000;
+
+// The numbers that go with a chart as a word.
+pub fn figures_word(f: Figures) -> u64
+    requires { ⌜ Small f ⌝ }
+    ensures { λ r. ⌜ r ≡ chartWord (0 ∷ figuresNumbers f) ⌝ }
+{
+    (f.points * SECOND + f.total * TOTAL + f.crossings * CROSSINGS) as u64
+}
+
+// A refusal as a word.
+pub fn refusal_word(f: Refusal) -> u64
+    requires { ⌜ stepOf f < second ⌝ }
+    ensures { λ r. ⌜ r ≡ doneWord (numbersOf f) ⌝ }
+{
+    (outcome::number_of(f) + loop_step(f) * SECOND) as u64
+}
+
+// The step that comes with a loop; 0 with any other refusal.
+fn loop_step(f: Refusal) -> usize
+    ensures { λ r. ⌜ r ≡ stepOf f ⌝ }
+{
+    match f {
+        Refusal::Loop(s) => s,
+        Refusal::Cut => 0,
+        Refusal::Overlong => 0,
+        Refusal::BadEdition => 0,
+        Refusal::ManySteps => 0,
+        Refusal::BadKind => 0,
+        Refusal::OutOfRange => 0,
+        Refusal::BadNameByte => 0,
+        Refusal::ManyEdges => 0,
+        Refusal::BadEnd => 0,
+        Refusal::Spare => 0,
+        Refusal::ManyPoints => 0,
+        Refusal::ShortBuffer => 0,
+        Refusal::NoStep => 0,
+    }
+}
