@@ -5,9 +5,9 @@ use ordering::ChartAnswer;
 use queries::types::CountsAnswer;
 use queries::types::NameAnswer;
 use rows::types::RowsAnswer;
-use words::SECOND;
-use words::THIRD;
+use words::counts_word;
 use words::figures_word;
+use words::name_word;
 use words::refusal_word;
 ghost use mathlib.Core.Path.{_≡_};
 ghost use Rattle.queries.specs.Calls.{countsCall, nameCall};
@@ -25,7 +25,7 @@ pub extern "C" fn yuvatondro_counts(table: &[u8]) -> u64
 {
     match queries::count_table(table) {
         CountsAnswer::Refused(f) => refusal_word(f),
-        CountsAnswer::Counted(c) => (c.steps * SECOND + c.edges * THIRD) as u64,
+        CountsAnswer::Counted(c) => counts_word(c.steps, c.edges),
     }
 }
 
@@ -37,7 +37,7 @@ pub extern "C" fn yuvatondro_name(table: &[u8], step: usize) -> u64
 {
     match queries::find_name(table, step) {
         NameAnswer::Refused(f) => refusal_word(f),
-        NameAnswer::At(start, len) => (len * SECOND + start * THIRD) as u64,
+        NameAnswer::At(start, len) => name_word(start, len),
     }
 }
 

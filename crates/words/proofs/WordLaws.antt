@@ -87,39 +87,33 @@ unfolding doneRead
 done-told e = (e, ap doneWord e)
 
 -- what is packed comes out again, part by part
-module _ (steps edges : ℕ) (h : steps < 0x100) {numbers : List ℕ} (e : 0 ∷ steps ∷ edges ∷ [] ≡ numbers) where
-  abbrev counts : ℕ
-  counts = steps * second + edges * third
+module _ (steps edges : ℕ) (h : steps < second) {w : ℕ} (is : w ≡ countsWord (0 ∷ steps ∷ edges ∷ [])) {numbers : List ℕ} (e : 0 ∷ steps ∷ edges ∷ [] ≡ numbers) where
+  counts-low : w % 0x100 ≡ 0
+  counts-low = omega (arith, is)
 
-  counts-low : counts % 0x100 ≡ 0
-  counts-low = omega arith
+  counts-first : w / 0x100 % 0x100 ≡ steps
+  counts-first = omega (arith, is)
 
-  counts-first : counts / 0x100 % 0x100 ≡ steps
-  counts-first = omega arith
+  counts-rest : w / 0x10000 ≡ edges
+  counts-rest = omega (arith, is)
 
-  counts-rest : counts / 0x10000 ≡ edges
-  counts-rest = omega arith
-
-  pub counts-told : (countsRead counts ≡ numbers) × (counts ≡ countsWord numbers)
+  pub counts-told : (countsRead w ≡ numbers) × (w ≡ countsWord numbers)
   unfolding countsRead
-  counts-told = (rw (counts-low, counts-first, counts-rest) e, omega arith ∙ ap countsWord e)
+  counts-told = (rw (counts-low, counts-first, counts-rest) e, is ∙ ap countsWord e)
 
-module _ (start len : ℕ) (h : len < 0x100) {numbers : List ℕ} (e : 0 ∷ start ∷ len ∷ [] ≡ numbers) where
-  abbrev name : ℕ
-  name = len * second + start * third
+module _ (start len : ℕ) (h : len < second) {w : ℕ} (is : w ≡ nameWord (0 ∷ start ∷ len ∷ [])) {numbers : List ℕ} (e : 0 ∷ start ∷ len ∷ [] ≡ numbers) where
+  name-low : w % 0x100 ≡ 0
+  name-low = omega (arith, is)
 
-  name-low : name % 0x100 ≡ 0
-  name-low = omega arith
+  name-first : w / 0x100 % 0x100 ≡ len
+  name-first = omega (arith, is)
 
-  name-first : name / 0x100 % 0x100 ≡ len
-  name-first = omega arith
+  name-rest : w / 0x10000 ≡ start
+  name-rest = omega (arith, is)
 
-  name-rest : name / 0x10000 ≡ start
-  name-rest = omega arith
-
-  pub name-told : (nameRead name ≡ numbers) × (name ≡ nameWord numbers)
+  pub name-told : (nameRead w ≡ numbers) × (w ≡ nameWord numbers)
   unfolding nameRead
-  name-told = (rw (name-low, name-first, name-rest) e, omega arith ∙ ap nameWord e)
+  name-told = (rw (name-low, name-first, name-rest) e, is ∙ ap nameWord e)
 
 module _ (f : Figures) (small : Small f) {w : ℕ} (is : w ≡ chartWord (0 ∷ figuresNumbers f)) {numbers : List ℕ} (e : 0 ∷ figuresNumbers f ≡ numbers) where
   chart-low : w % 0x100 ≡ 0

@@ -3,21 +3,37 @@
 use ordering::Figures;
 use outcome::Refusal;
 ghost use mathlib.Core.Path.{_≡_};
-ghost use mathlib.Core.List.{_∷_};
+ghost use mathlib.Core.List.{[], _∷_};
 ghost use Prim.Native.Nat.{_<_};
 ghost use Rattle.outcome.specs.Refusal.{numbersOf, stepOf};
 ghost use Rattle.ordering.specs.Calls.{figuresNumbers};
 ghost use Rattle.ordering.specs.Charting.{Small};
-ghost use Rattle.words.specs.Words.{second, doneWord, chartWord};
+ghost use Rattle.words.specs.Words.{second, third, doneWord, countsWord, nameWord, chartWord};
 
 // Where the numbers of a word start: behind the low byte, behind the next, and the total and the crossings of a chart.
-pub const SECOND: usize = 0x100;
+const SECOND: usize = 0x100;
 
-pub const THIRD: usize = 0x10000;
+const THIRD: usize = 0x10000;
 
 const TOTAL: usize = 0x80000;
 
 const CROSSINGS: usize = 0x100000000000;
+
+// The counts of a table as a word.
+pub fn counts_word(steps: usize, edges: usize) -> u64
+    requires { ⌜ (steps < second) × (edges < third) ⌝ }
+    ensures { λ r. ⌜ r ≡ countsWord (0 ∷ steps ∷ edges ∷ []) ⌝ }
+{
+    (steps * SECOND + edges * THIRD) as u64
+}
+
+// Where a name stands as a word.
+pub fn name_word(start: usize, len: usize) -> u64
+    requires { ⌜ (start < third) × (len < second) ⌝ }
+    ensures { λ r. ⌜ r ≡ nameWord (0 ∷ start ∷ len ∷ []) ⌝ }
+{
+    (len * SECOND + start * THIRD) as u64
+}
 
 // The numbers that go with a chart as a word.
 pub fn figures_word(f: Figures) -> u64

@@ -20,38 +20,27 @@ enum-known-f : tie.Need-enum-known-f
 enum-known-f c = search needs
 
 refusal-word-requires : tie.Need-refusal-word-requires
-refusal-word-requires c κs =
-    let told = c .before .before .before .count-table .ensures in
+refusal-word-requires c κs = let told = c .before .before .before .count-table .ensures in
     let f = c .before .f .given in
     omega (arith, alone (f .0 .0) (λ e. omega (arith, read-range _ (counts-not _ told (f .1)))))
 
 enum-known-c : tie.Need-enum-known-c
 enum-known-c c = search needs
 
-mul-result : tie.Need-mul-result
-mul-result c =
-    omega (arith, counts-low _ (c .before .before .before .before .count-table .ensures) (c .before .before .c .given .1))
-
-mul-result-2 : tie.Need-mul-result-2
-mul-result-2 c =
-    omega (arith, counts-low _ (c .before .before .before .before .before .count-table .ensures) (c .before .before .before .c .given .1))
-
-add-result : tie.Need-add-result
-add-result c =
-    omega (arith, counts-low _ (c .before .before .before .before .before .count-table .ensures) (c .before .before .before .c .given .1))
+counts-word-requires : tie.Need-counts-word-requires
+counts-word-requires c κs = let low = counts-low _ (c .before .before .before .count-table .ensures) (c .before .c .given .1) in
+    (omega (arith, low), omega (arith, low))
 
 returns : tie.Need-returns
-returns c =
-    let told = c .before .before .before .before .count-table .ensures in
+returns c = let told = c .before .before .before .before .count-table .ensures in
     let f = c .before .before .f .given in
     let low : stepOf (f .0 .0) < second = omega (arith, alone (f .0 .0) (λ e. omega (arith, read-range _ (counts-not _ told (f .1))))) in
     counts-refused (f .0 .0) low (c .refusal-word .ensures) (sym (ap countsNumbers (f .1)) ∙ told)
 
 returns-2 : tie.Need-returns-2
-returns-2 c =
-    let told = c .before .before .before .before .before .count-table .ensures in
-    let g = c .before .before .before .c .given in
-    counts-told (g .0 .0 .steps) (g .0 .0 .edges) (omega (arith, counts-low _ told (g .1))) (sym (ap countsNumbers (g .1)) ∙ told)
+returns-2 c = let told = c .before .before .before .before .count-table .ensures in
+    let g = c .before .before .c .given in
+    counts-told (g .0 .0 .steps) (g .0 .0 .edges) (omega (arith, counts-low _ told (g .1))) (c .counts-word .ensures) (sym (ap countsNumbers (g .1)) ∙ told)
 
 pub yuvatondro-counts-spec : {M : Type 1} → statement M
 yuvatondro-counts-spec =
@@ -61,8 +50,6 @@ yuvatondro-counts-spec =
     enum-known-f
     refusal-word-requires
     enum-known-c
-    mul-result
-    mul-result-2
-    add-result
+    counts-word-requires
     returns
     returns-2)
