@@ -3,6 +3,7 @@ mod between;
 mod tally;
 
 use crate::between::count_between;
+use crate::tally::BLOCK_SIZE;
 ghost use Prim.Native.Nat.{_+_, _<_};
 ghost use lib.ListN.{length};
 ghost use Rattle.crossings.specs.Placing.{Countable, RowCrossings, ChartCrossings};
@@ -58,7 +59,7 @@ fn count_row(
     if n < 2 {
         return 0;
     }
-    let m = n / 32 + 1;
+    let m = n / BLOCK_SIZE + 1;
     let points = &order[a..b];
     let used = &mut counts[..n];
     let used_blocks = &mut blocks[..m];

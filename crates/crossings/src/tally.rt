@@ -1,4 +1,4 @@
-// How many segments end at each position of a row, and in each block of 32 positions. Nothing is counted in behind position `last`.
+// How many segments end at each position of a row, and in each block of positions. Nothing is counted in behind position `last`.
 use buffers::larger_of;
 use buffers::smaller_of;
 ghost use mathlib.Core.Path.{_≡_};
@@ -8,6 +8,9 @@ ghost use Rattle.buffers.specs.Lists.{Below};
 ghost use Rattle.crossings.specs.Tally.{range, allCounted, rightOf, rightOfAll, raised, Blocked, NoneBehind};
 ghost use Rattle.crossings.specs.Between.{EndsPlaced, lows};
 ghost use Rattle.crossings.specs.Placing.{segmentLimit};
+
+// Positions in a block.
+pub const BLOCK_SIZE: usize = 32;
 
 // The entries from one index up to another, added up.
 fn sum_part(s: &[usize], from: usize, to: usize) -> usize
@@ -34,10 +37,10 @@ fn count_right(counts: &[usize], blocks: &[usize], l: usize, last: usize) -> usi
     if last <= l {
         return 0;
     }
-    let b = l / 32;
-    let end = smaller_of(b * 32 + 32, last + 1);
+    let b = l / BLOCK_SIZE;
+    let end = smaller_of(b * BLOCK_SIZE + BLOCK_SIZE, last + 1);
     let near = sum_part(counts, l + 1, end);
-    let far = sum_part(blocks, b + 1, last / 32 + 1);
+    let far = sum_part(blocks, b + 1, last / BLOCK_SIZE + 1);
     near + far
 }
 
@@ -98,7 +101,7 @@ pub fn raise_list(
         let l = pos[v];
         furthest = larger_of(furthest, l);
         counts[l] = counts[l] + 1;
-        let b = l / 32;
+        let b = l / BLOCK_SIZE;
         blocks[b] = blocks[b] + 1;
         x = next[k];
     }

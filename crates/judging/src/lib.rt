@@ -2,7 +2,7 @@
 use buffers::copy_all;
 use crossings::count_crossings;
 ghost use mathlib.Core.Path.{_≡_};
-ghost use mathlib.Core.Bool.{true};
+ghost use mathlib.Core.Bool.{true, false};
 ghost use lib.ListN.{length};
 ghost use Rattle.crossings.specs.Placing.{Countable};
 ghost use Rattle.judging.specs.Judging.{Keeping, Judged};
@@ -44,6 +44,7 @@ fn keep_fewer(order: &[usize], crossings: usize, saved: &mut [usize], fewest: us
 pub fn is_same(a: &[usize], b: &[usize]) -> bool
     requires { ⌜ length (now a) ≡ length (now b) ⌝ }
     ensures { λ r. ⌜ (r ≡ true → now (a .entry) ≡ now (b .entry)) ⌝ }
+    ensures { λ r. ⌜ (r ≡ false → now (a .entry) ≡ now (b .entry) → ⊥) ⌝ }
 {
     let mut i = 0;
     while i < a.len() {

@@ -99,7 +99,7 @@ returns c =
     let after-copy-all = after-pass-both .before .before .before .before .before .before .before .before in
     let in-loop = after-copy-all .before .before .before in
     let at-loop = in-loop .before in
-    laws.turning-still (in-loop .loop-test .taken) (at-loop .loop .inv .0) (after-pass-both .pass-both .ensures) (sym (c .before .is-same .ensures (c .if1 .taken)) ∙ after-copy-all .copy-all .ensures)
+    laws.turning-still (in-loop .loop-test .taken) (at-loop .loop .inv .0) (after-pass-both .pass-both .ensures) (sym (c .before .is-same .ensures .0 (c .if1 .taken)) ∙ after-copy-all .copy-all .ensures)
 
 add-k : tie.Need-add-k Inv-loop μ-loop
 add-k c =

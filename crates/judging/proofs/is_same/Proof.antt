@@ -1,6 +1,7 @@
 -- Up to i the lists agree; where they do to the end, they are the same.
-use mathlib.Core.Path.{_≡_, sym}
+use mathlib.Core.Path.{_≡_, sym, ap}
 use mathlib.Core.Bool.{true≢false}
+use mathlib.Core.List.{List}
 use Prim.Native.Nat.{ℕ, _-_, _≤_, _<_}
 use native.Mathlib.Omega.{arith}
 use lib.ListN.{length}
@@ -32,7 +33,8 @@ shared-slice-read-if1-2 : tie.Need-shared-slice-read-if1-2 Inv-loop μ-loop
 shared-slice-read-if1-2 c = omega arith
 
 returns : tie.Need-returns Inv-loop μ-loop
-returns c = λ e. absurd (true≢false (sym e))
+returns c =
+    (λ e. absurd (true≢false (sym e)), λ e same. c .if1 .taken (ap (λ (l : List ℕ). at l (c .before .before .before .before .loop .i)) same))
 
 add-i : tie.Need-add-i Inv-loop μ-loop
 add-i c = omega arith
@@ -44,7 +46,8 @@ loop-again : tie.Need-loop-again Inv-loop μ-loop
 loop-again c = (omega arith, agree-more (now (c .before .before .before .before .before .args .a)) (now (c .before .before .before .before .before .args .b)) _ (c .before .before .before .before .loop .inv .1) (c .if1 .left))
 
 returns-2 : tie.Need-returns-2 Inv-loop μ-loop
-returns-2 c = λ _. lists-agree 0 _ _ (c .before .before .pre) (λ j h. c .before .loop .inv .1 j (omega arith))
+returns-2 c =
+    (λ _. lists-agree 0 _ _ (c .before .before .pre) (λ j h. c .before .loop .inv .1 j (omega arith)), λ e. absurd (true≢false e))
 
 pub is-same-spec : {M : Type 1} → statement M
 is-same-spec =
