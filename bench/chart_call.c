@@ -1,4 +1,5 @@
 #include "chart_call.h"
+#include "rows_call.h"
 #include "yuvatondro.h"
 
 void call_chart(const uint8_t *table, size_t length, ChartAnswer *a) {
@@ -7,6 +8,15 @@ void call_chart(const uint8_t *table, size_t length, ChartAnswer *a) {
   a->points = yuvatondro_points(answer);
   a->total = yuvatondro_total(answer);
   a->crossings = yuvatondro_crossings(answer);
+}
+
+void cut_to_accepted(Instance *g) {
+  static uint8_t table[MAX_TABLE];
+  static ChartAnswer answer;
+  for (;; g->edges--) {
+    call_chart(table, write_table(g, table), &answer);
+    if (answer.refusal != REFUSED_MANY_POINTS) return;
+  }
 }
 
 // Points are the nodes, then the dummies by edge and rising row.

@@ -15,6 +15,9 @@ typedef struct {
 // The whole chart of a table.
 void call_chart(const uint8_t *table, size_t length, ChartAnswer *answer);
 
+// Takes edges off the end until the chart has few enough points; then it has about as many as a chart may have.
+void cut_to_accepted(Instance *inst);
+
 // An accepted answer as a drawing; 0 where its order is no order of its points.
 int read_chart(const Instance *inst, const ChartAnswer *answer, Drawing *d);
 #endif

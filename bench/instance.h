@@ -21,6 +21,9 @@ typedef struct {
 size_t shape_count(void);
 void make_shape(Instance *inst, size_t shape, size_t nodes, size_t edges, uint64_t seed);
 
+// A number below k, from the sequence that the last shape was made from.
+size_t random_below(size_t k);
+
 // stored.c: an instance from a text file: nodes and edges, then from, to, gap and weight of each edge. 0 where the file is not one.
 int read_instance(Instance *inst, const char *path);
 

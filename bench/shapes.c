@@ -12,6 +12,7 @@ static uint64_t next_random(void) {  // splitmix64
   return z ^ z >> 31;
 }
 static size_t below(size_t k) { return next_random() % k; }
+size_t random_below(size_t k) { return below(k); }
 static size_t between(size_t lo, size_t hi) { return lo + below(hi - lo + 1); }
 
 // An edge between two places, where they differ and there is room for it.

@@ -1,7 +1,7 @@
 // How deep each call goes into its stack:  stack FILE..
 // A call runs on a stack of its own that was painted before; the lowest byte that lost its paint tells the depth. What the way to
 // the call costs is found with a call that does nothing, and taken off. Inputs: the shapes of all sizes and the stored instances,
-// each as it is, with its edges cut until the chart is accepted, with a loop, and with its bytes cut short in many places.
+// each as it is, with its edges cut until the chart is accepted, with a loop, with soft edges, and with its bytes cut short in many places.
 #define _XOPEN_SOURCE 700
 #include "rows_call.h"
 #include "yuvatondro.h"
@@ -89,11 +89,21 @@ static void measure_loop(Instance inst) {
   *last = (Edge){ inst.edge[0].to, inst.edge[0].from, 1, 1 };
   measure_table(&inst);
 }
+// Soft edges, every second one the other way, so that some are turned.
+static void measure_soft(Instance inst) {
+  static uint8_t table[MAX_TABLE];
+  for (size_t i = 0; i < inst.edges; i += 2) {
+    Edge *e = &inst.edge[i];
+    *e = (Edge){ e->to, e->from, e->gap, e->weight };
+  }
+  measure_all(&inst, table, write_edition_2(&inst, SOFT, table));
+}
 static void measure_instance(const Instance *inst) {
   measure_table(inst);
   measure_cut_short(inst);
   measure_accepted(*inst);
   measure_loop(*inst);
+  measure_soft(*inst);
 }
 static void measure_size(size_t nodes) {
   static Instance inst;

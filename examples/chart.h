@@ -9,8 +9,9 @@
 /* Gaps of at most 4 over 64 steps lead no further down than row 252. Each edge has a segment more than it has dummies. */
 enum { MAX_ROWS = 253, MAX_SEGMENTS = YUVATONDRO_MAX_POINTS + YUVATONDRO_MAX_EDGES };
 
+/* As the table has it: the ends of a turned edge are not exchanged here. */
 typedef struct {
-  size_t from, to, gap, weight;
+  size_t from, to, gap, weight, soft;
 } Edge;
 
 /* A part of an edge, between neighbouring rows. */
@@ -49,10 +50,13 @@ typedef struct {
 /* chart.c: asks the library for all that it has to say of the table; its last answer, which is a refusal or not. */
 uint64_t ask_chart(Chart *chart, const uint8_t *table, size_t table_len);
 
-/* edges.c */
+/* edges.c: the edges of the table; and, from ROWS on, whether an edge was turned, and the step at its upper and at its lower end. */
 void read_edges(const Chart *chart, Edge *edge);
+int is_turned(const Chart *chart, unsigned edge);
+unsigned upper_end(const Chart *chart, unsigned edge);
+unsigned lower_end(const Chart *chart, unsigned edge);
 
-/* points.c: whether the points that the edges make are those of the library's order; if so they are placed. */
+/* points.c: whether the points that the edges make, kept or turned, are those of the library's order; if so they are placed. */
 int place_points(Chart *chart);
 
 /* layout.c: a middle x for each point, from widths and the blank between neighbours in any unit; the least left side is 0. Gives the

@@ -1,6 +1,7 @@
-/* The chart as a picture: a rounded box a step, with its number and name, in its row; a line an edge, through its dummies; the numbers of
- * the rows at the left. Lines go straight down within a row and slant only between rows, so none runs through a box, and two lines cross
- * only where the library counts a crossing. Hovering over a box or a line tells more of it. */
+/* The chart as a picture: a rounded box a step, with its number and name, in its row; a line an edge, through its dummies, with its tip
+ * where the table says that the edge ends; the numbers of the rows at the left. The line of a soft edge is dashed, and that of a turned
+ * one has a colour of its own and leads up. Lines are upright within a row and slant only between rows, so none runs through a box, and
+ * two lines cross only where the library counts a crossing. Hovering over a box or a line tells more of it. */
 #include "chart.h"
 
 /* All lengths are in tenths of a pixel. */
@@ -19,6 +20,8 @@ enum {
   MARGIN = 240,
   BASELINE = 45 /* from the middle of a line of text to its foot */
 };
+
+static const char EDGE_COLOUR[] = "#5f7285", TURNED_COLOUR[] = "#a4552a";
 
 typedef struct {
   long x[YUVATONDRO_MAX_POINTS], width[YUVATONDRO_MAX_POINTS];
@@ -116,14 +119,22 @@ static void put_name(FILE *out, const Chart *chart, size_t step) {
   }
 }
 
+static void put_tip(FILE *out, const char *id, const char *colour) {
+  fprintf(out,
+          "<marker id=\"%s\" viewBox=\"0 0 8 8\" refX=\"7.5\" refY=\"4\" markerWidth=\"7\" markerHeight=\"7\" orient=\"auto\">"
+          "<path d=\"M0 1L8 4L0 7Z\" fill=\"%s\" stroke=\"none\"/></marker>",
+          id, colour);
+}
+
 static void open_picture(FILE *out, const Picture *p) {
   fprintf(out, "<?xml version=\"1.0\" encoding=\"UTF-8\"?>\n");
   fprintf(out, "<svg xmlns=\"http://www.w3.org/2000/svg\" width=\"%.1f\" height=\"%.1f\" viewBox=\"0 0 %.1f %.1f\"", px(p->right),
           px(p->bottom), px(p->right), px(p->bottom));
   fprintf(out, " font-family=\"DejaVu Sans Mono, Menlo, Consolas, monospace\" font-size=\"13\">\n<title>%s</title>\n", p->figures);
-  fprintf(out,
-          "<defs><marker id=\"tip\" viewBox=\"0 0 8 8\" refX=\"7.5\" refY=\"4\" markerWidth=\"7\" markerHeight=\"7\" "
-          "orient=\"auto\"><path d=\"M0 1L8 4L0 7Z\" fill=\"#5f7285\" stroke=\"none\"/></marker></defs>\n");
+  fprintf(out, "<defs>");
+  put_tip(out, "tip", EDGE_COLOUR);
+  put_tip(out, "turned-tip", TURNED_COLOUR);
+  fprintf(out, "</defs>\n");
   fprintf(out, "<rect width=\"100%%\" height=\"100%%\" fill=\"#ffffff\"/>\n");
   fprintf(out, "<text x=\"%.1f\" y=\"26\" font-size=\"11\" fill=\"#7b8794\">%s</text>\n", px(MARGIN), p->figures);
 }
@@ -138,28 +149,59 @@ static void draw_rows(FILE *out, const Chart *chart, const Picture *p) {
   fprintf(out, "</g>\n");
 }
 
-/* The line of an edge, whose segments stand together: from the foot of a box to the head of another, straight down at its dummies. */
-static unsigned draw_edge(FILE *out, const Chart *chart, const Picture *p, unsigned first) {
-  unsigned i = first, edge = chart->segment[first].edge, row = chart->point_row[chart->segment[first].upper];
-  fprintf(out, "<path class=\"edge\" d=\"M%.1f %.1f", px(p->out[first]), px(p->top[row] + p->height[row]));
-  for (; i < chart->segments && chart->segment[i].edge == edge; i++) {
-    row = chart->point_row[chart->segment[i].lower];
+static long foot(const Picture *p, unsigned row) { return p->top[row] + p->height[row]; }
+
+/* A line down: from the foot of a box to the head of another, upright at its dummies. */
+static void draw_down(FILE *out, const Chart *chart, const Picture *p, unsigned first, unsigned end) {
+  fprintf(out, "M%.1f %.1f", px(p->out[first]), px(foot(p, chart->point_row[chart->segment[first].upper])));
+  for (unsigned i = first; i < end; i++) {
+    unsigned row = chart->point_row[chart->segment[i].lower];
     fprintf(out, "L%.1f %.1f", px(p->in[i]), px(p->top[row]));
-    if (!is_step(chart, chart->segment[i].lower) && p->height[row] > 0) fprintf(out, "V%.1f", px(p->top[row] + p->height[row]));
+    if (i + 1 < end && p->height[row] > 0) fprintf(out, "V%.1f", px(foot(p, row)));
   }
+}
+
+/* The same line the other way, so that its tip is at its upper end. */
+static void draw_up(FILE *out, const Chart *chart, const Picture *p, unsigned first, unsigned end) {
+  fprintf(out, "M%.1f %.1f", px(p->in[end - 1]), px(p->top[chart->point_row[chart->segment[end - 1].lower]]));
+  for (unsigned i = end; i-- > first;) {
+    unsigned row = chart->point_row[chart->segment[i].upper];
+    fprintf(out, "L%.1f %.1f", px(p->out[i]), px(foot(p, row)));
+    if (i > first && p->height[row] > 0) fprintf(out, "V%.1f", px(p->top[row]));
+  }
+}
+
+static void put_edge_title(FILE *out, const Chart *chart, unsigned edge, unsigned length) {
   const Edge *e = &chart->edge[edge];
-  fprintf(out, "\"><title>edge %u: %zu ", edge, e->from);
+  fprintf(out, "<title>edge %u: %zu ", edge, e->from);
   put_name(out, chart, e->from);
   fprintf(out, " to %zu ", e->to);
   put_name(out, chart, e->to);
-  fprintf(out, ", gap %zu, weight %zu, length %u</title></path>\n", e->gap, e->weight, i - first);
-  return i;
+  fprintf(out, ", gap %zu, weight %zu, length %u%s%s</title>", e->gap, e->weight, length, e->soft ? ", soft" : "",
+          is_turned(chart, edge) ? ", turned" : "");
+}
+
+/* The line of an edge, whose segments stand together. Gives the segment behind the last of them. */
+static unsigned draw_edge(FILE *out, const Chart *chart, const Picture *p, unsigned first) {
+  unsigned end = first, edge = chart->segment[first].edge;
+  int turned = is_turned(chart, edge);
+  while (end < chart->segments && chart->segment[end].edge == edge) end++;
+  fprintf(out, "<path class=\"edge%s%s\" d=\"", chart->edge[edge].soft ? " soft" : "", turned ? " turned" : "");
+  (turned ? draw_up : draw_down)(out, chart, p, first, end);
+  fprintf(out, "\"");
+  if (chart->edge[edge].soft) fprintf(out, " stroke-dasharray=\"5 3\"");
+  if (turned) fprintf(out, " stroke=\"%s\" marker-end=\"url(#turned-tip)\"", TURNED_COLOUR);
+  fprintf(out, ">");
+  put_edge_title(out, chart, edge, end - first);
+  fprintf(out, "</path>\n");
+  return end;
 }
 
 static void draw_edges(FILE *out, const Chart *chart, const Picture *p) {
   fprintf(out,
-          "<g class=\"edges\" fill=\"none\" stroke=\"#5f7285\" stroke-width=\"1.1\" stroke-linejoin=\"round\" "
-          "marker-end=\"url(#tip)\">\n");
+          "<g class=\"edges\" fill=\"none\" stroke=\"%s\" stroke-width=\"1.1\" stroke-linejoin=\"round\" "
+          "marker-end=\"url(#tip)\">\n",
+          EDGE_COLOUR);
   for (unsigned i = 0; i < chart->segments;) i = draw_edge(out, chart, p, i);
   fprintf(out, "</g>\n");
 }

@@ -1,12 +1,16 @@
 /* The chart as text: a line a row, with its number. A step is its number and name in brackets; a bar with a number is an edge that passes
- * by on its way down. Edges between neighbouring rows are not drawn: the list of edges has them. */
+ * by on its way down, and ^ with a number one that was turned, on its way up. Edges between neighbouring rows are not drawn: the list of
+ * edges has them. */
 #include "chart.h"
 
 enum { UNITS = 16, LONGEST = 32 };
 
 /* The text of a point; gives its length. */
 static int point_text(const Chart *chart, unsigned point, char text[LONGEST]) {
-  if (point >= chart->steps) return snprintf(text, LONGEST, "|%u", chart->point_edge[point]);
+  if (point >= chart->steps) {
+    unsigned edge = chart->point_edge[point];
+    return snprintf(text, LONGEST, "%c%u", is_turned(chart, edge) ? '^' : '|', edge);
+  }
   return snprintf(text, LONGEST, "[%u %.*s]", point, (int)chart->name_len[point], (const char *)chart->name[point]);
 }
 

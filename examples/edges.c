@@ -1,8 +1,8 @@
 /* The edges of a table, read here and not by the library.
  *
- * The calls hand out counts, names, rows and the order, but not the ends of the edges, which a drawing needs. A host program mostly made
- * its table itself and has them; this one has only the bytes. They are walked without any check, because this is done only with a table
- * that yuvatondro_counts has accepted: then every number is complete, and as many edges stand there as were counted. */
+ * The calls hand out counts, names, rows and the order, but not the ends and the firmness of the edges, which a drawing needs. A host
+ * program mostly made its table itself and has them; this one has only the bytes. They are walked without any check, because this is done
+ * only with a table that yuvatondro_counts has accepted: then every number is complete, and as many edges stand there as were counted. */
 #include "chart.h"
 
 /* A number: seven bits a byte, the lowest first; the high bit says that another byte follows. Moves the place behind it. */
@@ -18,15 +18,30 @@ static size_t read_number(const uint8_t **at) {
   return number;
 }
 
-/* The edges stand behind the name of the last step and their own count. Without steps there are none. */
+/* The edges stand behind the name of the last step and their own count. Without steps there are none. Firmness is a number of edition 2
+ * only; the edges of edition 1 are all must. */
 void read_edges(const Chart *chart, Edge *edge) {
   if (chart->steps == 0) return;
-  const uint8_t *at = chart->name[chart->steps - 1] + chart->name_len[chart->steps - 1];
+  const uint8_t *at = chart->table;
+  size_t edition = read_number(&at);
+  at = chart->name[chart->steps - 1] + chart->name_len[chart->steps - 1];
   read_number(&at);
   for (unsigned i = 0; i < chart->edges; i++) {
     edge[i].from = read_number(&at);
     edge[i].to = read_number(&at);
     edge[i].gap = read_number(&at);
     edge[i].weight = read_number(&at);
+    edge[i].soft = edition == 1 ? 0 : read_number(&at);
   }
+}
+
+/* The rows tell which soft edges were turned: every edge leads down as it was kept or turned, so a turned one starts lower than it ends. */
+int is_turned(const Chart *chart, unsigned edge) { return chart->row[chart->edge[edge].from] > chart->row[chart->edge[edge].to]; }
+
+unsigned upper_end(const Chart *chart, unsigned edge) {
+  return (unsigned)(is_turned(chart, edge) ? chart->edge[edge].to : chart->edge[edge].from);
+}
+
+unsigned lower_end(const Chart *chart, unsigned edge) {
+  return (unsigned)(is_turned(chart, edge) ? chart->edge[edge].from : chart->edge[edge].to);
 }

@@ -2,7 +2,7 @@
  *
  * Reads a table from a file, prints all that the calls of include/yuvatondro.h tell of it as lists and as a drawing in text, and, with a
  * second argument, draws the chart as a picture. chart.c has the calls. What the calls do not hand out is not shown, with one exception:
- * the ends of the edges, which edges.c reads. So a step has its name, but not its kind.
+ * the edges, which edges.c reads. So a step has its name, but not its kind.
  *
  * Ends with status 0; with 1 if the table is refused, after printing what is known of it; with 2 for trouble with the arguments or files.
  */
@@ -11,7 +11,7 @@
 
 #include "chart.h"
 
-/* No accepted table is longer than 3,913 bytes, and a longer file is refused for the same reason as its first 8,192 bytes. */
+/* No accepted table is longer than 4,489 bytes, and a longer file is refused for the same reason as its first 8,192 bytes. */
 enum { ROOM = 8192, REFUSED = 1, TROUBLE = 2 };
 
 static int report(const char *path) {

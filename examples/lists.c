@@ -25,15 +25,17 @@ static void list_steps(FILE *out, const Chart *chart) {
   }
 }
 
+/* Of a soft edge the line says so, and whether it was turned. */
 static void list_edges(FILE *out, const Chart *chart) {
   fprintf(out, "\nedge  from  to  gap  weight  length\n");
   for (unsigned i = 0; i < chart->edges; i++) {
     const Edge *e = &chart->edge[i];
     fprintf(out, "%4u  %4zu  %2zu  %3zu  %6zu  ", i, e->from, e->to, e->gap, e->weight);
     if (chart->known < ROWS)
-      fprintf(out, "     -\n");
+      fprintf(out, "     -");
     else
-      fprintf(out, "%6d\n", chart->row[e->to] - chart->row[e->from]);
+      fprintf(out, "%6d", chart->row[lower_end(chart, i)] - chart->row[upper_end(chart, i)]);
+    fprintf(out, "%s%s\n", e->soft ? "  soft" : "", chart->known >= ROWS && is_turned(chart, i) ? ", turned" : "");
   }
 }
 

@@ -3,19 +3,21 @@
 
 #include "chart.h"
 
-/* Whether the edges read here are those that the library has: it finds the same rows for them, and counts as many points. */
+/* Whether the edges read here are those that the library has: it turns no must edge, finds the same rows for the edges as they were kept
+ * or turned, and counts as many points. */
 static int edges_agree(const Chart *chart) {
   size_t record[4 * YUVATONDRO_MAX_EDGES];
   uint8_t row[YUVATONDRO_MAX_STEPS];
   unsigned long points = chart->steps;
   for (unsigned i = 0; i < chart->edges; i++) {
     const Edge *e = &chart->edge[i];
-    const size_t numbers[4] = {e->from, e->to, e->gap, e->weight};
+    const size_t numbers[4] = {upper_end(chart, i), lower_end(chart, i), e->gap, e->weight};
+    if (is_turned(chart, i) && !e->soft) return 0;
     memcpy(record + 4 * i, numbers, sizeof numbers);
   }
   uint64_t answer = yuvatondro_records(chart->steps, record, 4 * chart->edges, row, YUVATONDRO_MAX_STEPS);
   if (answer != YUVATONDRO_DONE || memcmp(row, chart->row, chart->steps) != 0) return 0;
-  for (unsigned i = 0; i < chart->edges; i++) points += (unsigned long)(row[chart->edge[i].to] - row[chart->edge[i].from] - 1);
+  for (unsigned i = 0; i < chart->edges; i++) points += (unsigned long)(row[lower_end(chart, i)] - row[upper_end(chart, i)] - 1);
   return points == chart->points;
 }
 
@@ -23,16 +25,16 @@ static void add_segment(Chart *chart, unsigned upper, unsigned lower, unsigned e
   chart->segment[chart->segments++] = (Segment){upper, lower, edge};
 }
 
-/* The dummies of an edge, numbered from `point` on, and its segments. Gives the number behind the last dummy. */
+/* The dummies of an edge, numbered from `point` on, and its segments, both from the top down. Gives the number behind the last dummy. */
 static unsigned lay_edge(Chart *chart, unsigned edge, unsigned point) {
-  unsigned from = (unsigned)chart->edge[edge].from, to = (unsigned)chart->edge[edge].to, upper = from;
-  for (unsigned row = chart->row[from] + 1u; row < chart->row[to]; row++) {
+  unsigned upper = upper_end(chart, edge), last = lower_end(chart, edge);
+  for (unsigned row = chart->row[upper] + 1u; row < chart->row[last]; row++) {
     chart->point_row[point] = row;
     chart->point_edge[point] = edge;
     add_segment(chart, upper, point, edge);
     upper = point++;
   }
-  add_segment(chart, upper, to, edge);
+  add_segment(chart, upper, last, edge);
   return point;
 }
 

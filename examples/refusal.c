@@ -4,7 +4,7 @@
 static const char *const sentences[] = {
     [YUVATONDRO_CUT] = "the table ends in the middle; the file was cut short, copy or write it again",
     [YUVATONDRO_OVERLONG] = "a number of the table takes more than three bytes; this is no table, or a damaged one",
-    [YUVATONDRO_BAD_EDITION] = "the table is not of edition 1; it is no table, or one for another release",
+    [YUVATONDRO_BAD_EDITION] = "the table is not of edition 1 or 2; it is no table, or one for another release",
     [YUVATONDRO_MANY_STEPS] = "the table has more than 64 steps; split the alignment into several tables",
     [YUVATONDRO_BAD_KIND] = "a step is neither a check nor an adjustment nor a wait; correct its kind",
     [YUVATONDRO_OUT_OF_RANGE] =
@@ -14,10 +14,12 @@ static const char *const sentences[] = {
     [YUVATONDRO_MANY_EDGES] = "the table has more than 192 edges; leave out those that others imply",
     [YUVATONDRO_BAD_END] = "an edge starts or ends at a step that is not in the table, or leads from a step to itself",
     [YUVATONDRO_SPARE] = "bytes follow the last edge; the counts of steps or edges are wrong, or two files were joined",
-    [YUVATONDRO_LOOP] = "the edges form a loop, so no order of work exists; take out or turn round an edge of that loop",
+    [YUVATONDRO_LOOP] =
+        "the must edges form a loop, so no order of work exists; take out an edge of that loop, turn it round or make it soft",
     [YUVATONDRO_MANY_POINTS] = "the chart would have more than 1024 points; shorten long edges, or split the alignment",
     [YUVATONDRO_SHORT_BUFFER] = "this program lent too small a buffer; that is a mistake in the program, not in the table",
     [YUVATONDRO_NO_STEP] = "this program asked for a step that is not there; that is a mistake in the program, not in the table",
+    [YUVATONDRO_BAD_FIRMNESS] = "an edge is neither must nor soft; correct its firmness, 0 or 1",
 };
 
 void explain_refusal(FILE *out, const Chart *chart, uint64_t answer) {
@@ -25,8 +27,8 @@ void explain_refusal(FILE *out, const Chart *chart, uint64_t answer) {
   fprintf(out, "host: refused %u: %s\n", refusal, refusal < sizeof sentences / sizeof *sentences ? sentences[refusal] : "?");
   if (refusal == YUVATONDRO_LOOP) {
     unsigned step = yuvatondro_loop_step(answer);
-    fprintf(out, "host: the lowest step on a loop is %u, %.*s\n", step, (int)chart->name_len[step], (const char *)chart->name[step]);
-  } else if (refusal <= YUVATONDRO_SPARE) {
+    fprintf(out, "host: the lowest step on such a loop is %u, %.*s\n", step, (int)chart->name_len[step], (const char *)chart->name[step]);
+  } else if (refusal <= YUVATONDRO_SPARE || refusal == YUVATONDRO_BAD_FIRMNESS) {
     fprintf(out, "host: 'tools/table read' on the same file tells the byte\n");
   }
 }

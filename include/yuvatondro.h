@@ -5,7 +5,8 @@
  * takes any bytes and any lengths, ends, and keeps no state.
  *
  * An answer is one word. Its low byte is 0, or the number of the refusal, and then no buffer was changed. With refusal 11 the lowest
- * step that lies on a loop stands in the byte above. Entries of a buffer behind those that a call fills keep their content.
+ * step that lies on a loop of must edges stands in the byte above. Entries of a buffer behind those that a call fills keep their
+ * content.
  */
 #ifndef YUVATONDRO_H
 #define YUVATONDRO_H
@@ -17,13 +18,13 @@
 extern "C" {
 #endif
 
-/* Why a call was turned down, in the order in which the conditions are judged: 1 to 10 from the bytes of the table from left to right,
- * then 14, or 11, 12, 13. */
+/* Why a call was turned down, in the order in which the conditions are judged: 1 to 10 and 15 from the bytes of the table from left to
+ * right, then 14, or 11, 12, 13. */
 enum {
   YUVATONDRO_DONE = 0,
   YUVATONDRO_CUT = 1,           /* the bytes end in the middle of the table */
   YUVATONDRO_OVERLONG = 2,      /* the third byte of a number has its high bit set */
-  YUVATONDRO_BAD_EDITION = 3,   /* an edition other than 1 */
+  YUVATONDRO_BAD_EDITION = 3,   /* an edition other than 1 and 2 */
   YUVATONDRO_MANY_STEPS = 4,    /* more than YUVATONDRO_MAX_STEPS steps */
   YUVATONDRO_BAD_KIND = 5,      /* a kind above 2 */
   YUVATONDRO_OUT_OF_RANGE = 6,  /* a number of a kind, a name's length, a gap or a weight */
@@ -31,10 +32,11 @@ enum {
   YUVATONDRO_MANY_EDGES = 8,    /* more than YUVATONDRO_MAX_EDGES edges */
   YUVATONDRO_BAD_END = 9,       /* an end of an edge is no step, or both are the same */
   YUVATONDRO_SPARE = 10,        /* bytes follow the last edge */
-  YUVATONDRO_LOOP = 11,         /* the edges form a loop: yuvatondro_loop_step tells the step */
+  YUVATONDRO_LOOP = 11,         /* must edges form a loop: yuvatondro_loop_step tells the step */
   YUVATONDRO_MANY_POINTS = 12,  /* more than YUVATONDRO_MAX_POINTS points */
   YUVATONDRO_SHORT_BUFFER = 13, /* a buffer is too short for what the call puts in it */
-  YUVATONDRO_NO_STEP = 14       /* the table has no step of that number */
+  YUVATONDRO_NO_STEP = 14,      /* the table has no step of that number */
+  YUVATONDRO_BAD_FIRMNESS = 15  /* a firmness above 1 */
 };
 
 enum { YUVATONDRO_MAX_STEPS = 64, YUVATONDRO_MAX_EDGES = 192, YUVATONDRO_MAX_POINTS = 1024 };
@@ -43,27 +45,37 @@ enum { YUVATONDRO_MAX_STEPS = 64, YUVATONDRO_MAX_EDGES = 192, YUVATONDRO_MAX_POI
 static inline unsigned yuvatondro_refusal(uint64_t answer) { return (unsigned)(answer & 0xFF); }
 static inline unsigned yuvatondro_loop_step(uint64_t answer) { return (unsigned)(answer >> 8 & 0xFF); }
 
-/* The steps and edges of a table. Refuses by 1 to 10. */
+/* The steps and edges of a table. Refuses by 1 to 10 and 15. */
 uint64_t yuvatondro_counts(const uint8_t *table, size_t table_len);
 static inline unsigned yuvatondro_steps(uint64_t counts) { return (unsigned)(counts >> 8 & 0xFF); }
 static inline unsigned yuvatondro_edges(uint64_t counts) { return (unsigned)(counts >> 16); }
 
-/* Where the name of a step stands in the table: its start and its length, which is 1 to 16. Refuses by 1 to 10, then 14. */
+/* Where the name of a step stands in the table: its start and its length, which is 1 to 16. Refuses by 1 to 10 and 15, then
+ * 14. */
 uint64_t yuvatondro_name(const uint8_t *table, size_t table_len, size_t step);
 static inline size_t yuvatondro_name_length(uint64_t name) { return (size_t)(name >> 8 & 0xFF); }
 static inline size_t yuvatondro_name_start(uint64_t name) { return (size_t)(name >> 16); }
 
 /* The rows of a table, one byte a step: feasible, of least weighted total among all feasible rows, and among those the lowest at every
- * step. Answers 0. Refuses by 1 to 11, then 13. */
+ * step. Answers 0. Refuses by 1 to 10 and 15, then 11, 13.
+ *
+ * A table of edition 2 says of each edge whether it is must or soft; in edition 1 all are must. Must edges stand as they are, and a
+ * loop of them is refused. Then come the soft ones, one after another as the table lists them. Where one would form a loop with edges
+ * that stand, it is turned: its ends are exchanged, and its gap, weight and number stay. Else it is kept, and stands from then on. So
+ * refusal 11 is never due to a soft edge, and the rows are those of all edges as kept or turned. */
 uint64_t yuvatondro_rows(const uint8_t *table, size_t table_len, uint8_t *rows, size_t rows_len);
 
 /* The same for edges without a table: `numbers` entries of `records`, four to an edge (from, to, gap, weight); fewer than four left
- * over are no edge. Refuses by 4, 8, then each edge in turn by 9 and 6, then 11, 13. */
+ * over are no edge. All are must. Refuses by 4, 8, then each edge in turn by 9 and 6, then 11, 13. */
 uint64_t yuvatondro_records(size_t steps, const size_t *records, size_t numbers, uint8_t *rows, size_t rows_len);
 
 /* The whole chart of a table: its rows as above, and to `order` its points, row by row from row 0 and each row from left to right. A
  * step's point has the step's number; the dummies follow, by edge and then by rising row. Answers how many points there are, the
- * weighted total of the rows, and the crossings of the order. Refuses by 1 to 13. */
+ * weighted total of the rows, and the crossings of the order. Refuses by 1 to 10 and 15, then 11, 12, 13.
+ *
+ * Points, total and crossings too are of the edges as kept or turned. A drawing can tell from the rows which edges are turned: those
+ * whose tail in the table stands in a larger row than their head. Such an edge has its dummies by rising row as well, so that its
+ * first one is next to its head. */
 uint64_t yuvatondro_chart(const uint8_t *table, size_t table_len, uint8_t *rows, size_t rows_len, uint16_t *order, size_t order_len);
 static inline unsigned yuvatondro_points(uint64_t chart) { return (unsigned)(chart >> 8 & 0x7FF); }
 static inline unsigned long yuvatondro_total(uint64_t chart) { return (unsigned long)(chart >> 19 & 0x1FFFFFF); }

@@ -1,6 +1,9 @@
 """The bytes of a table: docs/FORMAT.md says what they are."""
 
-from table_model import EDITION, GAP, KINDS, MOST_EDGES, MOST_STEPS, NAME_BYTE, NAME_LENGTH, WEIGHT, Edge, Fault, Step, Table, span
+from table_model import EDITIONS, FIRMNESS, GAP, KINDS, MOST_EDGES, MOST_STEPS, MUST, NAME_BYTE, NAME_LENGTH, WEIGHT
+from table_model import Edge, Fault, Step, Table, span
+
+PLAIN, WITH_FIRMNESS = EDITIONS
 
 
 def number_bytes(number):
@@ -18,9 +21,16 @@ def step_bytes(step):
     return number_bytes(step.kind) + adds + number_bytes(len(step.name)) + step.name
 
 
+def edge_bytes(edge, edition):
+    numbers = edge if edition == WITH_FIRMNESS else edge[:-1]  # the firmness is the last
+    return b"".join(map(number_bytes, numbers))
+
+
 def table_bytes(table):
-    parts = [number_bytes(EDITION), number_bytes(len(table.steps)), *map(step_bytes, table.steps), number_bytes(len(table.edges))]
-    parts += [number_bytes(number) for edge in table.edges for number in edge]
+    """The edition is the lowest that can tell the edges, so that equal tables have equal bytes."""
+    edition = PLAIN if all(edge.firmness == MUST for edge in table.edges) else WITH_FIRMNESS
+    parts = [number_bytes(edition), number_bytes(len(table.steps)), *map(step_bytes, table.steps), number_bytes(len(table.edges))]
+    parts += [edge_bytes(edge, edition) for edge in table.edges]
     return b"".join(parts)
 
 
@@ -50,8 +60,7 @@ class Reader:
         else:
             raise self.fault(self.at - 1, 2, f"the third byte of {what} says that a fourth follows")
         if value not in allowed:
-            due = span(allowed) if len(allowed) > 1 else allowed[0]
-            raise self.fault(start, refusal, f"{what} is {value}, not {due}")
+            raise self.fault(start, refusal, f"{what} is {value}, not {span(allowed)}")
         return value
 
     def step(self, number):
@@ -68,13 +77,16 @@ class Reader:
             raise self.fault(self.at - 1, 7, f"byte {byte:02X} in the name of step {number} is outside 21 to 7E")
         return byte
 
-    def edge(self, number, steps):
+    def edge(self, number, steps, edition):
         tail = self.end(f"from of edge {number}", steps)
         start = self.at
         head = self.end(f"to of edge {number}", steps)
         if tail == head:
             raise self.fault(start, 9, f"from and to of edge {number} are both step {head}")
-        return Edge(tail, head, self.number(f"the gap of edge {number}", GAP, 6), self.number(f"the weight of edge {number}", WEIGHT, 6))
+        gap = self.number(f"the gap of edge {number}", GAP, 6)
+        weight = self.number(f"the weight of edge {number}", WEIGHT, 6)
+        firmness = MUST if edition == PLAIN else self.number(f"the firmness of edge {number}", range(len(FIRMNESS)), 15)
+        return Edge(tail, head, gap, weight, firmness)
 
     def end(self, what, steps):
         start = self.at
@@ -84,9 +96,9 @@ class Reader:
         return number
 
     def whole(self):
-        self.number("the edition", range(EDITION, EDITION + 1), 3)
+        edition = self.number("the edition", EDITIONS, 3)
         steps = [self.step(i) for i in range(self.number("the step count", range(MOST_STEPS + 1), 4))]
-        edges = [self.edge(i, len(steps)) for i in range(self.number("the edge count", range(MOST_EDGES + 1), 8))]
+        edges = [self.edge(i, len(steps), edition) for i in range(self.number("the edge count", range(MOST_EDGES + 1), 8))]
         if self.at < len(self.table):
             raise self.fault(self.at, 10, f"the table is complete, and {len(self.table) - self.at} more bytes follow")
         return Table(steps, edges)

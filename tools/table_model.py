@@ -2,20 +2,22 @@
 
 from collections import namedtuple
 
-EDITION = 1
+EDITIONS = range(1, 3)
 MOST_STEPS = 64
 MOST_EDGES = 192
 NAME_LENGTH = range(1, 17)
 NAME_BYTE = range(0x21, 0x7F)
 GAP = range(1, 5)
 WEIGHT = range(256)
+FIRMNESS = [b"must", b"soft"]  # the place in the list is its number
+MUST, SOFT = range(len(FIRMNESS))
 
 # What a kind adds: the range of its number, and what that number is. The place in the list is the kind's number.
 Kind = namedtuple("Kind", "word adds meaning")
 KINDS = [Kind("check", None, None), Kind("adjust", range(10_000), "tolerance"), Kind("wait", range(1, 241), "number of minutes")]
 
 Step = namedtuple("Step", "name kind number")
-Edge = namedtuple("Edge", "tail head gap weight")
+Edge = namedtuple("Edge", "tail head gap weight firmness")
 Table = namedtuple("Table", "steps edges")
 
 
@@ -24,7 +26,7 @@ class Fault(Exception):
 
 
 def span(numbers):
-    return f"{numbers[0]} to {numbers[-1]}"
+    return f"{numbers[0]} {'or' if len(numbers) == 2 else 'to'} {numbers[-1]}"
 
 
 def shown(word):

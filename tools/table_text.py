@@ -4,9 +4,14 @@ import codecs
 import re
 from collections import namedtuple
 
-from table_model import GAP, KINDS, MOST_EDGES, MOST_STEPS, NAME_BYTE, NAME_LENGTH, WEIGHT, Edge, Fault, Step, Table, shown, span
+from table_model import FIRMNESS, GAP, KINDS, MOST_EDGES, MOST_STEPS, MUST, NAME_BYTE, NAME_LENGTH, SOFT, WEIGHT
+from table_model import Edge, Fault, Step, Table, shown, span
 
-EdgeLine = namedtuple("EdgeLine", "line tail head gap weight")
+# The words behind the ends of an edge, and what each gives: a gap and a weight are numbers, the firmness is its own word.
+EDGE_WORDS = {b"gap": "gap", b"weight": "weight", **dict.fromkeys(FIRMNESS, "firmness")}
+EDGE_NUMBERS = {"gap": GAP, "weight": WEIGHT}
+
+EdgeLine = namedtuple("EdgeLine", "line tail head gap weight firmness")
 
 
 def decimal(digits):
@@ -64,12 +69,13 @@ def parse_edge(words):
     given = {}
     while words.rest and not words.rest[0].startswith(b"#"):
         word = words.take("a word")
-        if word not in (b"gap", b"weight"):
-            raise words.fault(f"after the ends of an edge stand gap and weight, not {shown(word)}")
-        if word in given:
-            raise words.fault(f"the {word.decode()} is given twice")
-        given[word] = words.take_number(word.decode(), GAP if word == b"gap" else WEIGHT)
-    return EdgeLine(words.line, tail, head, given.get(b"gap", 1), given.get(b"weight", 1))
+        field = EDGE_WORDS.get(word)
+        if field is None:
+            raise words.fault(f"after the ends of an edge stand gap, weight, must or soft, not {shown(word)}")
+        if field in given:
+            raise words.fault(f"the {field} is given twice")
+        given[field] = FIRMNESS.index(word) if word in FIRMNESS else words.take_number(field, EDGE_NUMBERS[field])
+    return EdgeLine(words.line, tail, head, given.get("gap", 1), given.get("weight", 1), given.get("firmness", MUST))
 
 
 def find_end(line, end, steps):
@@ -96,7 +102,7 @@ def find_ends(edge_line, steps):
     head = find_end(edge_line.line, edge_line.head, steps)
     if tail == head:
         raise Fault(f"line {edge_line.line}: an edge joins two different steps, and both its ends are @{tail}")
-    return Edge(tail, head, edge_line.gap, edge_line.weight)
+    return Edge(tail, head, edge_line.gap, edge_line.weight, edge_line.firmness)
 
 
 def parse_line(words, steps, edge_lines):
@@ -137,5 +143,6 @@ def table_text(table):
         lines.append(f"step {step.name.decode()} {KINDS[step.kind].word}{added}\n")
     for edge in table.edges:
         tail, head = end_text(edge.tail, table.steps), end_text(edge.head, table.steps)
-        lines.append(f"edge {tail} {head} gap {edge.gap} weight {edge.weight}\n")
+        soft = " soft" if edge.firmness == SOFT else ""
+        lines.append(f"edge {tail} {head} gap {edge.gap} weight {edge.weight}{soft}\n")
     return "".join(lines).encode()

@@ -1,5 +1,5 @@
 -- A loop that copies lent edges to flat arrays: all of them, or none where there are too many.
-use mathlib.Core.Path.{_≡_, refl, sym, ap, subst, _∙_}
+use mathlib.Core.Path.{_≡_, refl, ap, _∙_}
 use mathlib.Core.Bool.{Bool, true, false}
 use mathlib.Core.List.{List}
 use Prim.Native.Nat.{ℕ, _+_, _≤_, _<_}
@@ -12,7 +12,7 @@ use Rattle.graph.specs.Rows.{noEdge}
 use Rattle.table.specs.Limits.{maxEdges}
 use Rattle.flatten.specs.Flat.{Flattened}
 use Rattle.flatten.specs.Records.{copied}
-use Rattle.flatten.proofs.FlattenLaws.{Flattening, blank, flattening-none, flattening-more, flattening-all}
+use Rattle.flatten.proofs.FlattenLaws.{Flattening, blank, flattening-none, flattening-with, flattening-all}
 
 -- ---- how many are copied
 
@@ -49,9 +49,7 @@ module _ (edges : List Edge) (end : ℕ) where
         → Copying edges end (i + 1) (set from i (e .from)) (set to i (e .to)) (set gap i (e .gap)) (set weight i (e .weight))
     copying-more h e same =
         record {
-          held =
-              subst (λ (e : Edge). Flattening edges (i + 1) (set from i (e .from)) (set to i (e .to)) (set gap i (e .gap)) (set weight i (e .weight)))
-              (sym same) (flattening-more edges i from to gap weight (t .held) (copying-in h .1));
+          held = flattening-with edges i from to gap weight (t .held) (copying-in h .1) e same;
           some = omega arith;
           all = t .all;
         }

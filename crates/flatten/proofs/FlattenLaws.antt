@@ -1,5 +1,5 @@
 -- A loop that copies the fields of edges to flat arrays: it starts with none, a turn adds an edge, and its end has them all.
-use mathlib.Core.Path.{_≡_, sym, ap, _∙_}
+use mathlib.Core.Path.{_≡_, sym, ap, subst, _∙_}
 use mathlib.Core.List.{List}
 use Prim.Native.Nat.{ℕ, _+_, _≤_, _<_}
 use native.Mathlib.Omega.{arith}
@@ -76,6 +76,13 @@ module _ (edges : List Edge) where
           gap-copied = copied-more (gap-of edges) i gap h (f .gap-copied);
           weight-copied = copied-more (weight-of edges) i weight h (f .weight-copied);
         }
+
+    -- the same, of an edge that is read first
+    pub flattening-with : i < maxEdges → (e : Edge) → e ≡ getD edges i noEdge
+        → Flattening edges (i + 1) (set from i (e .from)) (set to i (e .to)) (set gap i (e .gap)) (set weight i (e .weight))
+    flattening-with h e same =
+        subst (λ (e : Edge). Flattening edges (i + 1) (set from i (e .from)) (set to i (e .to)) (set gap i (e .gap)) (set weight i (e .weight)))
+        (sym same) (flattening-more h)
 
     pub flattening-all : (m : ℕ) → m ≤ i → m ≤ maxEdges → m ≤ length edges → Flattened m edges from to gap weight
     flattening-all m l few long =

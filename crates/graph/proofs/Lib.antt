@@ -5,3 +5,4 @@ pub mod PigeonLaws
 pub mod SearchLaws
 pub mod BoundLaws
 pub mod PlacementLaws
+pub mod DirectedLaws

@@ -4,6 +4,7 @@ pub mod text;
 use crate::text::put_byte;
 use crate::text::put_marked;
 use crate::text::put_text;
+use table::limits::MAX_EDGES;
 use table::limits::MAX_STEPS;
 use table::types::Kind;
 use table::types::Step;
@@ -14,26 +15,28 @@ ghost use Rattle.buffers.specs.Written.{Stored};
 ghost use Rattle.labels.specs.Text.{blank};
 ghost use Rattle.labels.specs.Labels.{labelText, Labelled, kindText, stepText, dummyText};
 
-// Point p behind a blank: one of n steps, or a dummy, by the edge of each.
+// Point p behind a blank: one of n steps, or a dummy, by the edge of each and whether that was turned.
 pub fn put_point(
     bytes: &[u8],
     steps: [Step; MAX_STEPS],
     n: usize,
     owners: &[usize],
+    turned: [bool; MAX_EDGES],
     p: usize,
     out: &mut [u8],
     at: usize,
 ) -> usize
-    requires { ⌜ Labelled (now bytes) steps n (now owners) p ⌝ }
-    requires { ⌜ at + length (blank ∷ labelText (now bytes) steps n (now owners) p) ≤ length (now out) ⌝ }
-    ensures { λ r. ⌜ Stored (now (out .entry)) at (blank ∷ labelText (now (bytes .entry)) steps n (now (owners .entry)) p) (now (out .exit)) r ⌝ }
+    requires { ⌜ Labelled (now bytes) steps n (now owners) turned p ⌝ }
+    requires { ⌜ at + length (blank ∷ labelText (now bytes) steps n (now owners) turned p) ≤ length (now out) ⌝ }
+    ensures { λ r. ⌜ Stored (now (out .entry)) at (blank ∷ labelText (now (bytes .entry)) steps n (now (owners .entry)) turned p) (now (out .exit)) r ⌝ }
 {
     let next = put_byte(b' ', out, at);
     if p < n {
         let step = steps[p];
         return put_step(bytes, step, out, next);
     }
-    put_dummy(owners[p - n], out, next)
+    let edge = owners[p - n];
+    put_dummy(edge, turned[edge], out, next)
 }
 
 // A step, whose name is a stretch of the table.
@@ -62,10 +65,13 @@ fn put_kind(kind: Kind, out: &mut [u8], at: usize) -> usize
     }
 }
 
-// A dummy of an edge.
-fn put_dummy(edge: usize, out: &mut [u8], at: usize) -> usize
-    requires { ⌜ at + length (dummyText edge) ≤ length (now out) ⌝ }
-    ensures { λ r. ⌜ Stored (now (out .entry)) at (dummyText edge) (now (out .exit)) r ⌝ }
+// A dummy of an edge: a sign that tells a turned edge from a kept one, and the edge's number.
+fn put_dummy(edge: usize, turned: bool, out: &mut [u8], at: usize) -> usize
+    requires { ⌜ at + length (dummyText turned edge) ≤ length (now out) ⌝ }
+    ensures { λ r. ⌜ Stored (now (out .entry)) at (dummyText turned edge) (now (out .exit)) r ⌝ }
 {
+    if turned {
+        return put_marked(b'^', edge, out, at);
+    }
     put_marked(b'|', edge, out, at)
 }

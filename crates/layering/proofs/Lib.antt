@@ -1,4 +1,5 @@
--- Laws by subject. A layer above wants CallLaws and StepLaws.
+-- Laws by subject. A layer above wants RankLaws, CallLaws and StepLaws.
+pub mod RankLaws
 pub mod CallLaws
 pub mod StepLaws
 pub mod StarredLaws

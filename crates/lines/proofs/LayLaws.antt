@@ -1,5 +1,6 @@
 -- The dummies laid edge by edge: those of the first edges are in the arrays, and the rest is to come.
 use mathlib.Core.Path.{_≡_, refl, sym, ap, _∙_}
+use mathlib.Core.Bool.{Bool, false}
 use mathlib.Core.List.{List, [], _∷_, _++_, map}
 use Prim.Native.Nat.{ℕ, suc, _+_, _-_, _≤_, _<_}
 use native.Mathlib.Numerals.{add-one}
@@ -7,8 +8,11 @@ use native.Mathlib.Omega.{arith}
 use lib.ListN.{length, getD, take, drop, drop-of-length-le, length-map}
 use lib.Seq.{drop-cons, getD-take, length-take-le}
 use Rattle.graph.specs.declared.Edge.{Edge}
+use Rattle.graph.specs.declared.TableEdge.{TableEdge}
 use Rattle.graph.specs.Rows.{at, noEdge}
+use Rattle.graph.specs.Directed.{noTableEdge, directed, directedBy}
 use Rattle.graph.specs.Search.{run}
+use Rattle.graph.proofs.DirectedLaws.{directed-length, directed-get}
 use Rattle.points.specs.Points.{Dummy, dummies}
 use Rattle.buffers.proofs.RunLaws.{run-length}
 use Rattle.lines.specs.Printing.{ownersOf, dummyRows}
@@ -25,41 +29,56 @@ map-same : (xs : List ℕ) → map (λ x. x) xs ≡ xs
 map-same [] = refl
 map-same (x ∷ xs) = ap (x ∷_) (map-same xs)
 
-module _ (ys : List ℕ) (edges : List Edge) (m i : ℕ) where
-  -- the dummies of the edges from number i on
-  abbrev pub still : List Dummy
-  still = dummies ys i (drop i (take m edges))
+-- ---- the first m edges of an array, each directed as its flag says
 
-  abbrev pub later : List Dummy
-  later = dummies ys (i + 1) (drop (i + 1) (take m edges))
+module _ (turned : List Bool) (edges : List TableEdge) (m : ℕ) (few : m ≤ length edges) where
+  pub laid-count : length (directedBy turned (take m edges)) ≡ m
+  laid-count = directed-length turned (take m edges) ∙ length-take-le m edges few
 
-  -- the rows between the ends of edge i
-  abbrev pub rowsBetween : List ℕ
-  rowsBetween = let e = getD edges i noEdge in run (suc (at ys (e .from))) (at ys (e .to) - at ys (e .from) - 1)
+  -- edge i of the array, directed by its own flag, is edge i of these
+  pub laid-edge : (i : ℕ) → i < m → {d : Edge} → d ≡ directed (getD turned i false) (getD edges i noTableEdge .edge)
+      → getD (directedBy turned (take m edges)) i noEdge ≡ d
+  laid-edge i h {d} e =
+      directed-get turned (take m edges) i (omega (arith, length-take-le m edges few))
+      ∙ ap (λ (x : TableEdge). directed (getD turned i false) (x .edge)) (getD-take m edges i noTableEdge h) ∙ sym e
 
-  pub between-length : length rowsBetween ≡ at ys (getD edges i noEdge .to) - at ys (getD edges i noEdge .from) - 1
+-- ---- edge by edge
+
+-- the rows between the ends of an edge
+abbrev pub rowsBetween : List ℕ → Edge → List ℕ
+rowsBetween ys e = run (suc (at ys (e .from))) (at ys (e .to) - at ys (e .from) - 1)
+
+module _ (ys : List ℕ) (e : Edge) where
+  pub between-length : length (rowsBetween ys e) ≡ at ys (e .to) - at ys (e .from) - 1
   between-length = run-length _ _
 
-  pub owners-length : length (map (λ (_ : ℕ). i) rowsBetween) ≡ at ys (getD edges i noEdge .to) - at ys (getD edges i noEdge .from) - 1
-  owners-length = length-map rowsBetween (λ (_ : ℕ). i) ∙ between-length
+  pub owners-length : (i : ℕ) → length (map (λ (_ : ℕ). i) (rowsBetween ys e)) ≡ at ys (e .to) - at ys (e .from) - 1
+  owners-length i = length-map (rowsBetween ys e) (λ (_ : ℕ). i) ∙ between-length
 
-  module _ (few : m ≤ length edges) (h : i < m) where
-    lay-turn : still ≡ map (λ r. record { edge = i; row = r }) rowsBetween ++ later
+module _ (ys : List ℕ) (edges : List Edge) (i : ℕ) where
+  -- the dummies of the edges from number i on
+  abbrev pub still : List Dummy
+  still = dummies ys i (drop i edges)
+
+  abbrev pub later : List Dummy
+  later = dummies ys (i + 1) (drop (i + 1) edges)
+
+  module _ (h : i < length edges) (e : Edge) (p : getD edges i noEdge ≡ e) where
+    lay-turn : still ≡ map (λ r. record { edge = i; row = r }) (rowsBetween ys e) ++ later
     unfolding dummies
-    lay-turn =
-        ap (dummies ys i) (drop-cons (take m edges) i noEdge (omega (arith, length-take-le m edges few)))
-        ∙ rw (getD-take m edges i noEdge h, add-one i)
+    lay-turn = ap (dummies ys i) (drop-cons edges i noEdge h) ∙ rw (p, add-one i)
 
-    pub owners-turn : ownersOf still ≡ map (λ (_ : ℕ). i) rowsBetween ++ ownersOf later
+    pub owners-turn : ownersOf still ≡ map (λ (_ : ℕ). i) (rowsBetween ys e) ++ ownersOf later
     owners-turn =
-        ap ownersOf lay-turn ∙ map-append (λ (d : Dummy). d .edge) (map (λ r. record { edge = i; row = r }) rowsBetween) later
-        ∙ ap (_++ ownersOf later) (map-map (λ (d : Dummy). d .edge) (λ r. record { edge = i; row = r }) rowsBetween)
+        ap ownersOf lay-turn ∙ map-append (λ (d : Dummy). d .edge) (map (λ r. record { edge = i; row = r }) (rowsBetween ys e)) later
+        ∙ ap (_++ ownersOf later) (map-map (λ (d : Dummy). d .edge) (λ r. record { edge = i; row = r }) (rowsBetween ys e))
 
-    pub rows-turn : dummyRows still ≡ rowsBetween ++ dummyRows later
+    pub rows-turn : dummyRows still ≡ rowsBetween ys e ++ dummyRows later
     rows-turn =
-        ap dummyRows lay-turn ∙ map-append (λ (d : Dummy). d .row) (map (λ r. record { edge = i; row = r }) rowsBetween) later
-        ∙ ap (_++ dummyRows later) (map-map (λ (d : Dummy). d .row) (λ r. record { edge = i; row = r }) rowsBetween ∙ map-same rowsBetween)
+        ap dummyRows lay-turn ∙ map-append (λ (d : Dummy). d .row) (map (λ r. record { edge = i; row = r }) (rowsBetween ys e)) later
+        ∙ ap (_++ dummyRows later)
+        (map-map (λ (d : Dummy). d .row) (λ r. record { edge = i; row = r }) (rowsBetween ys e) ∙ map-same (rowsBetween ys e))
 
-  pub lay-end : m ≤ length edges → m ≤ i → still ≡ []
+  pub lay-end : length edges ≤ i → still ≡ []
   unfolding dummies
-  lay-end few h = ap (dummies ys i) (drop-of-length-le (take m edges) {i = i} (omega (arith, length-take-le m edges few)))
+  lay-end h = ap (dummies ys i) (drop-of-length-le edges {i = i} h)

@@ -123,12 +123,15 @@ leading-inside ys r order i h = omega (arith, leading-few ys r (drop i order), l
 -- ---- a point
 
 -- each point of a sheet can be printed
-pub sheet-label : (bytes : List ℕ) (steps : List Step) (ys owners rows order : List ℕ) → Sheet bytes steps ys owners rows order → (i : ℕ)
-    → i < length order → Labelled bytes steps (length ys) owners (at order i)
-sheet-label bytes steps ys owners rows order s i h =
+pub sheet-label : (bytes : List ℕ) (steps : List Step) (ys owners : List ℕ) (turned : List Bool) (rows order : List ℕ)
+    → Sheet bytes steps ys owners turned rows order → (i : ℕ) → i < length order
+    → Labelled bytes steps (length ys) owners turned (at order i)
+sheet-label bytes steps ys owners turned rows order s i h =
     record {
       long = s .long;
+      flags-long = s .flags-long;
       few = s .few;
       name = λ l. s .names (at order i) l;
       inside = omega (arith, s .points .below i h, s .owners-long);
+      owned = s .owned;
     }

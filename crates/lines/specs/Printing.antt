@@ -1,12 +1,13 @@
 -- How the code goes through a chart: its points one behind the other, with the row of each.
 use mathlib.Core.Path.{_≡_}
-use mathlib.Core.Bool.{cond}
+use mathlib.Core.Bool.{Bool, cond}
 use mathlib.Core.List.{List, [], _∷_, _++_, map}
 use Prim.Native.Nat.{ℕ, zero, suc, _+_, _≤_, _<_}
 use lib.Dec.{eqb}
 use lib.ListN.{length, getD, take, drop}
-use Rattle.graph.specs.declared.Edge.{Edge}
+use Rattle.graph.specs.declared.TableEdge.{TableEdge}
 use Rattle.graph.specs.Rows.{at, noEdge}
+use Rattle.graph.specs.Directed.{directedBy}
 use Rattle.table.specs.declared.types.Step.{Step}
 use Rattle.table.specs.Limits.{maxSteps, maxEdges}
 use Rattle.table.specs.Calls.{noStep}
@@ -44,20 +45,26 @@ ownersOf ds = map (λ (d : Dummy). d .edge) ds
 abbrev pub dummyRows : List Dummy → List ℕ
 dummyRows ds = map (λ (d : Dummy). d .row) ds
 
--- What laying the dummies asks for: the first m edges of an array lead down from row to row, and there is room.
-pub record Layable (edges : List Edge) (m : ℕ) (ys owners rows : List ℕ) : Type 0 where
+-- What laying the dummies asks for: the first m edges of an array, each directed as its flag says, lead down from row to row, and there
+-- is room.
+pub record Layable (edges : List TableEdge) (turned : List Bool) (m : ℕ) (ys owners rows : List ℕ) : Type 0 where
   pub few : m ≤ maxEdges
   pub long : length edges ≡ maxEdges
-  pub from-in : (i : ℕ) → i < m → getD edges i noEdge .from < length ys
-  pub to-in : (i : ℕ) → i < m → getD edges i noEdge .to < length ys
-  pub down : (i : ℕ) → i < m → at ys (getD edges i noEdge .from) < at ys (getD edges i noEdge .to)
-  pub owners-room : length (dummies ys 0 (take m edges)) ≤ length owners
-  pub rows-room : length (dummies ys 0 (take m edges)) ≤ length rows
+  pub flags-long : length turned ≡ maxEdges
+  pub from-in : (i : ℕ) → i < m → getD (directedBy turned (take m edges)) i noEdge .from < length ys
+  pub to-in : (i : ℕ) → i < m → getD (directedBy turned (take m edges)) i noEdge .to < length ys
+  pub down : (i : ℕ) → i < m
+      → at ys (getD (directedBy turned (take m edges)) i noEdge .from) < at ys (getD (directedBy turned (take m edges)) i noEdge .to)
+  pub owners-room : length (dummies ys 0 (directedBy turned (take m edges))) ≤ length owners
+  pub rows-room : length (dummies ys 0 (directedBy turned (take m edges))) ≤ length rows
 
--- What printing points asks for: n steps whose names lie in the table, a row and an edge for each dummy, and an order of all these.
-pub record Sheet (bytes : List ℕ) (steps : List Step) (ys owners rows order : List ℕ) : Type 0 where
+-- What printing points asks for: n steps whose names lie in the table, a row and an edge for each dummy, a flag for each edge, and an
+-- order of all points.
+pub record Sheet (bytes : List ℕ) (steps : List Step) (ys owners : List ℕ) (turned : List Bool) (rows order : List ℕ) : Type 0 where
   pub long : length steps ≡ maxSteps
+  pub flags-long : length turned ≡ maxEdges
   pub few : length ys ≤ maxSteps
   pub names : (i : ℕ) → i < length ys → getD steps i noStep .start + getD steps i noStep .len ≤ length bytes
   pub owners-long : length owners ≡ length rows
+  pub owned : Below maxEdges owners
   pub points : Below (length ys + length rows) order

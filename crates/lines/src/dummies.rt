@@ -1,34 +1,40 @@
 // The dummies of a chart, by number: the edge of each, and its row.
-use graph::Edge;
+use graph::TableEdge;
+use graph::direct_edge;
 use table::limits::MAX_EDGES;
 ghost use mathlib.Core.List.{map};
 ghost use Prim.Native.Nat.{ℕ, suc, _+_, _-_, _≤_, _<_};
 ghost use lib.ListN.{length, take};
+ghost use Rattle.graph.specs.Directed.{directedBy};
 ghost use Rattle.graph.specs.Search.{run};
 ghost use Rattle.points.specs.Points.{dummies};
 ghost use Rattle.buffers.specs.Written.{Stored};
 ghost use Rattle.lines.specs.Printing.{ownersOf, dummyRows, Layable};
 
-// The dummies of the first m edges of an array, between steps in their rows. Answers how many there are.
+// The dummies of the first m edges of an array, each edge directed as its flag says, between steps in their rows. Answers how many
+// there are.
 pub fn lay_dummies(
-    edges: [Edge; MAX_EDGES],
+    edges: [TableEdge; MAX_EDGES],
+    turned: [bool; MAX_EDGES],
     m: usize,
     ys: &[usize],
     owners: &mut [usize],
     rows: &mut [usize],
 ) -> usize
-    requires { ⌜ Layable edges m (now ys) (now owners) (now rows) ⌝ }
-    ensures { λ r. ⌜ Stored (now (owners .entry)) 0 (ownersOf (dummies (now (ys .entry)) 0 (take m edges))) (now (owners .exit)) r ⌝ }
-    ensures { λ r. ⌜ Stored (now (rows .entry)) 0 (dummyRows (dummies (now (ys .entry)) 0 (take m edges))) (now (rows .exit)) r ⌝ }
+    requires { ⌜ Layable edges turned m (now ys) (now owners) (now rows) ⌝ }
+    ensures { λ r. ⌜ Stored (now (owners .entry)) 0 (ownersOf (dummies (now (ys .entry)) 0 (directedBy turned (take m edges)))) (now (owners .exit)) r ⌝ }
+    ensures { λ r. ⌜ Stored (now (rows .entry)) 0 (dummyRows (dummies (now (ys .entry)) 0 (directedBy turned (take m edges)))) (now (rows .exit)) r ⌝ }
 {
-    let mut d = 0;
+    let mut next = 0;
     for i in 0..m {
         let e = edges[i];
-        let from = e.from;
-        let to = e.to;
-        d = lay_edge(i, ys[from], ys[to], owners, rows, d);
+        let own = e.edge;
+        let d = direct_edge(own, turned[i]);
+        let from = d.from;
+        let to = d.to;
+        next = lay_edge(i, ys[from], ys[to], owners, rows, next);
     }
-    d
+    next
 }
 
 // Those of one edge, from row `top` to row `bottom`, from dummy `at` on.

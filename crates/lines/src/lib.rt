@@ -8,6 +8,7 @@ use labels::text::put_number;
 use labels::text::put_text;
 use outcome::Refusal;
 use outcome::number_of;
+use table::limits::MAX_EDGES;
 use table::limits::MAX_STEPS;
 use table::types::Step;
 ghost use mathlib.Core.Path.{_≡_};
@@ -49,26 +50,40 @@ struct Place {
     next: usize,
 }
 
-// The line of each row, of `height` rows. Points stand in `order` row by row; a step's row is in `ys`, a dummy's in `rows`.
+// The line of each row, of `height` rows. Points stand in `order` row by row; a step's row is in `ys`, a dummy's in `rows` and its
+// edge in `owners`.
 pub fn put_rows(
     bytes: &[u8],
     steps: [Step; MAX_STEPS],
     ys: &[usize],
     owners: &[usize],
+    turned: [bool; MAX_EDGES],
     rows: &[usize],
     order: &[u16],
     height: usize,
     out: &mut [u8],
     at: usize,
 ) -> usize
-    requires { ⌜ Sheet (now bytes) steps (now ys) (now owners) (now rows) (now order) ⌝ }
-    requires { ⌜ at + length (linesFrom (labelText (now bytes) steps (length (now ys)) (now owners)) (now ys ++ now rows) 0 height (now order)) ≤ length (now out) ⌝ }
-    ensures { λ r. ⌜ Stored (now (out .entry)) at (linesFrom (labelText (now (bytes .entry)) steps (length (now (ys .entry))) (now (owners .entry))) (now (ys .entry) ++ now (rows .entry)) 0 height (now (order .entry))) (now (out .exit)) r ⌝ }
+    requires { ⌜ Sheet (now bytes) steps (now ys) (now owners) turned (now rows) (now order) ⌝ }
+    requires { ⌜ at + length (linesFrom (labelText (now bytes) steps (length (now ys)) (now owners) turned) (now ys ++ now rows) 0 height (now order)) ≤ length (now out) ⌝ }
+    ensures { λ r. ⌜ Stored (now (out .entry)) at (linesFrom (labelText (now (bytes .entry)) steps (length (now (ys .entry))) (now (owners .entry)) turned) (now (ys .entry) ++ now (rows .entry)) 0 height (now (order .entry))) (now (out .exit)) r ⌝ }
 {
     let mut point = 0;
     let mut next = at;
     for r in 0..height {
-        let place = put_row(bytes, steps, ys, owners, rows, order, r, point, out, next);
+        let place = put_row(
+            bytes,
+            steps,
+            ys,
+            owners,
+            turned,
+            rows,
+            order,
+            r,
+            point,
+            out,
+            next,
+        );
         point = place.point;
         next = place.next;
     }
@@ -81,6 +96,7 @@ fn put_row(
     steps: [Step; MAX_STEPS],
     ys: &[usize],
     owners: &[usize],
+    turned: [bool; MAX_EDGES],
     rows: &[usize],
     order: &[u16],
     r: usize,
@@ -88,14 +104,26 @@ fn put_row(
     out: &mut [u8],
     at: usize,
 ) -> Place
-    requires { ⌜ Sheet (now bytes) steps (now ys) (now owners) (now rows) (now order) ⌝ }
+    requires { ⌜ Sheet (now bytes) steps (now ys) (now owners) turned (now rows) (now order) ⌝ }
     requires { ⌜ from ≤ length (now order) ⌝ }
-    requires { ⌜ at + length (lineIn (labelText (now bytes) steps (length (now ys)) (now owners)) (now ys ++ now rows) r (drop from (now order))) ≤ length (now out) ⌝ }
-    ensures { λ p. ⌜ Stored (now (out .entry)) at (lineIn (labelText (now (bytes .entry)) steps (length (now (ys .entry))) (now (owners .entry))) (now (ys .entry) ++ now (rows .entry)) r (drop from (now (order .entry)))) (now (out .exit)) (p .next) ⌝ }
+    requires { ⌜ at + length (lineIn (labelText (now bytes) steps (length (now ys)) (now owners) turned) (now ys ++ now rows) r (drop from (now order))) ≤ length (now out) ⌝ }
+    ensures { λ p. ⌜ Stored (now (out .entry)) at (lineIn (labelText (now (bytes .entry)) steps (length (now (ys .entry))) (now (owners .entry)) turned) (now (ys .entry) ++ now (rows .entry)) r (drop from (now (order .entry)))) (now (out .exit)) (p .next) ⌝ }
     ensures { λ p. ⌜ p .point ≡ from + length (leading (now (ys .entry) ++ now (rows .entry)) r (drop from (now (order .entry)))) ⌝ }
 {
     let next = put_number(r, out, at);
-    let place = put_points(bytes, steps, ys, owners, rows, order, r, from, out, next);
+    let place = put_points(
+        bytes,
+        steps,
+        ys,
+        owners,
+        turned,
+        rows,
+        order,
+        r,
+        from,
+        out,
+        next,
+    );
     Place {
         point: place.point,
         next: put_byte(b'\n', out, place.next),
@@ -108,6 +136,7 @@ fn put_points(
     steps: [Step; MAX_STEPS],
     ys: &[usize],
     owners: &[usize],
+    turned: [bool; MAX_EDGES],
     rows: &[usize],
     order: &[u16],
     r: usize,
@@ -115,10 +144,10 @@ fn put_points(
     out: &mut [u8],
     at: usize,
 ) -> Place
-    requires { ⌜ Sheet (now bytes) steps (now ys) (now owners) (now rows) (now order) ⌝ }
+    requires { ⌜ Sheet (now bytes) steps (now ys) (now owners) turned (now rows) (now order) ⌝ }
     requires { ⌜ from ≤ length (now order) ⌝ }
-    requires { ⌜ at + length (fieldsIn (labelText (now bytes) steps (length (now ys)) (now owners)) (now ys ++ now rows) r (drop from (now order))) ≤ length (now out) ⌝ }
-    ensures { λ p. ⌜ Stored (now (out .entry)) at (fieldsIn (labelText (now (bytes .entry)) steps (length (now (ys .entry))) (now (owners .entry))) (now (ys .entry) ++ now (rows .entry)) r (drop from (now (order .entry)))) (now (out .exit)) (p .next) ⌝ }
+    requires { ⌜ at + length (fieldsIn (labelText (now bytes) steps (length (now ys)) (now owners) turned) (now ys ++ now rows) r (drop from (now order))) ≤ length (now out) ⌝ }
+    ensures { λ p. ⌜ Stored (now (out .entry)) at (fieldsIn (labelText (now (bytes .entry)) steps (length (now (ys .entry))) (now (owners .entry)) turned) (now (ys .entry) ++ now (rows .entry)) r (drop from (now (order .entry)))) (now (out .exit)) (p .next) ⌝ }
     ensures { λ p. ⌜ p .point ≡ from + length (leading (now (ys .entry) ++ now (rows .entry)) r (drop from (now (order .entry)))) ⌝ }
 {
     let mut point = from;
@@ -128,7 +157,7 @@ fn put_points(
         if row_of(ys, rows, p) != r {
             break;
         }
-        next = put_point(bytes, steps, ys.len(), owners, p, out, next);
+        next = put_point(bytes, steps, ys.len(), owners, turned, p, out, next);
         point += 1;
     }
     Place {

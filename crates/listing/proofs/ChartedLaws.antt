@@ -20,7 +20,13 @@ use Rattle.table.specs.Table.{Contents, contentsOf, read}
 use Rattle.table.specs.Calls.{noStep, readCall}
 use Rattle.buffers.specs.Padded.{padded}
 use Rattle.table.proofs.ArrayLaws.{array-steps, array-list, array-count, array-edges, array-long}
-use Rattle.rows.specs.Answers.{rowsFound}
+use Rattle.graph.specs.Directed.{directedBy}
+use Rattle.buffers.proofs.PaddedLaws.{padded-long}
+use Rattle.table.proofs.FairLaws.{read-fair}
+use Rattle.acyclic.proofs.OrientedLaws.{turned-length, directed-oriented}
+use Rattle.layering.specs.Calls.{tableRowsFound, rowsOfTable, orientedIn, turnedIn, placeCall}
+use Rattle.layering.proofs.RankLaws.{padded-directs}
+use Rattle.layering.proofs.CallLaws.{place-flags}
 use Rattle.rows.specs.Placed.{outcomeBy}
 use Rattle.ordering.specs.declared.Figures.{Figures}
 use Rattle.ordering.specs.declared.types.ChartFound.{ChartFound}
@@ -30,7 +36,7 @@ use Rattle.ordering.specs.Calls.{Placing, pointCount, unlessMany, chartOfTable,
 use Rattle.ordering.specs.Charting.{chartedBy, TableFound}
 
 -- What the arrays and numbers of an accepted table hold: its steps and edges, its rows, and their drawing.
-pub record Opened (bytes : List ℕ) (table : Table) (f : ChartFound) : Type 0 where
+pub record Opened (bytes : List ℕ) (table : Table) (flags : List Bool) (f : ChartFound) : Type 0 where
   pub placing : Placing
   pub is : chartOfTable bytes ≡ done placing
   pub said : read bytes ≡ done (placing .contents)
@@ -38,16 +44,18 @@ pub record Opened (bytes : List ℕ) (table : Table) (f : ChartFound) : Type 0 w
   pub f-n : f .n ≡ table .n
   pub steps-are : table .steps ≡ padded maxSteps noStep (placing .contents .steps)
   pub m-is : table .m ≡ length (placing .contents .edges)
-  pub edges-are : take (table .m) (table .edges) ≡ placing .contents .edges
+  pub flags-are : flags ≡ padded maxEdges false (turnedIn (placing .contents))
+  pub flags-long : length flags ≡ maxEdges
+  pub edges-are : directedBy flags (take (table .m) (table .edges)) ≡ orientedIn (placing .contents)
   pub edges-long : length (table .edges) ≡ maxEdges
   pub rows-are : take (f .n) (f .rows) ≡ placing .rows
-  pub best : Best (length (placing .contents .steps)) (placing .contents .edges) (placing .rows)
+  pub best : Best (length (placing .contents .steps)) (orientedIn (placing .contents)) (placing .rows)
   pub height-is : f .height ≡ rowCount (placing .rows)
-  pub order-is : take (f .points) (f .order) ≡ flatten (drawingOf (placing .rows) (placing .contents .edges) .order)
-  pub points-are : f .points ≡ pointCount (placing .rows) (placing .contents .edges)
+  pub order-is : take (f .points) (f .order) ≡ flatten (drawingOf (placing .rows) (orientedIn (placing .contents)) .order)
+  pub points-are : f .points ≡ pointCount (placing .rows) (orientedIn (placing .contents))
   pub few-points : f .points ≤ maxPoints
-  pub total-is : f .total ≡ total (placing .contents .edges) (at (placing .rows))
-  pub crossings-are : f .crossings ≡ drawingOf (placing .rows) (placing .contents .edges) .crossings
+  pub total-is : f .total ≡ total (orientedIn (placing .contents)) (at (placing .rows))
+  pub crossings-are : f .crossings ≡ drawingOf (placing .rows) (orientedIn (placing .contents)) .crossings
 
 -- ---- the placing
 
@@ -56,46 +64,48 @@ record Found (bytes : List ℕ) (c : Charted) : Type 0 where
   placing : Placing
   is : chartOfTable bytes ≡ done placing
   said : read bytes ≡ done (placing .contents)
-  few : pointCount (placing .rows) (placing .contents .edges) ≤ maxPoints
-  holds : c ≡ charted (placing .rows) (placing .contents .edges)
+  rows-found : rowsOfTable bytes ≡ done (placing .rows)
+  few : pointCount (placing .rows) (orientedIn (placing .contents)) ≤ maxPoints
+  holds : c ≡ charted (placing .rows) (orientedIn (placing .contents))
 
 never : {X : Type 0} {c : Charted} {r : Refusal} → _≡_ {A = Outcome Charted} (done c) (refused r) → X
 never e = let z : _≡_ {A = ℕ} 0 1 = cc in absurd (omega arith)
 
 module _ (bytes : List ℕ) (c : Charted) where
   abbrev rest : Contents → Outcome Placing
-  rest t = thenDo (rowsFound (length (t .steps)) (t .edges)) λ rows. unlessMany t rows
+  rest t = thenDo (tableRowsFound (length (t .steps)) (t .edges)) λ rows. unlessMany t rows
 
   found-of : done c ≡ chartOut (chartOfTable bytes) → Found bytes c
-  unfolding chartOfTable
+  unfolding chartOfTable rowsOfTable
   found-of = go (read bytes) refl
     where
-      many : (t : Contents) (ys : List ℕ) (b : Bool) → read bytes ≡ done t → rowsFound (length (t .steps)) (t .edges) ≡ done ys
-          → leb (pointCount ys (t .edges)) maxPoints ≡ b
+      many : (t : Contents) (ys : List ℕ) (b : Bool) → read bytes ≡ done t → tableRowsFound (length (t .steps)) (t .edges) ≡ done ys
+          → leb (pointCount ys (orientedIn t)) maxPoints ≡ b
           → done c ≡ chartOut (demand b ManyPoints (done (record { contents = t; rows = ys }))) → Found bytes c
       many t ys true r s p e =
           record {
             placing = record { contents = t; rows = ys };
             is = rw (r, s, p);
             said = r;
+            rows-found = rw (r, s);
             few = leb-true _ _ p;
             holds = cc;
           }
       many t ys false r s p e = never e
 
-      found : (t : Contents) (o : Outcome (List ℕ)) → read bytes ≡ done t → rowsFound (length (t .steps)) (t .edges) ≡ o
+      found : (t : Contents) (o : Outcome (List ℕ)) → read bytes ≡ done t → tableRowsFound (length (t .steps)) (t .edges) ≡ o
           → done c ≡ chartOut (thenDo o (λ ys. unlessMany t ys)) → Found bytes c
-      found t (done ys) r s e = many t ys (leb (pointCount ys (t .edges)) maxPoints) r s refl e
+      found t (done ys) r s e = many t ys (leb (pointCount ys (orientedIn t)) maxPoints) r s refl e
       found t (refused g) r s e = never e
 
       go : (o : Outcome Contents) → read bytes ≡ o → done c ≡ chartOut (thenDo o rest) → Found bytes c
-      go (done t) r e = found t (rowsFound (length (t .steps)) (t .edges)) r refl e
+      go (done t) r e = found t (tableRowsFound (length (t .steps)) (t .edges)) r refl e
       go (refused g) r e = never e
 
 -- ---- the arrays and numbers
 
-module _ (bytes : List ℕ) (table : Table) (f : ChartFound) (same : table ≡ readCall bytes .table) (h : TableFound bytes f)
-    (a : f .verdict ≡ Accepted) where
+module _ (bytes : List ℕ) (table : Table) (flags : List Bool) (f : ChartFound) (same : table ≡ readCall bytes .table) (turned : flags ≡ placeCall bytes .turned)
+    (h : TableFound bytes f) (a : f .verdict ≡ Accepted) where
   found : Found bytes (chartedBy f)
   found = found-of bytes (chartedBy f) (sym (ap (λ u. outcomeBy u (chartedBy f)) a) ∙ h .says)
 
@@ -108,21 +118,32 @@ module _ (bytes : List ℕ) (table : Table) (f : ChartFound) (same : table ≡ r
   rows-taken : take (f .n) (f .rows) ≡ ys
   rows-taken = ap (λ (c : Charted). c .rows) (found .holds)
 
-  rows-best : Best (length (t .steps)) (t .edges) ys
+  rows-best : Best (length (t .steps)) (orientedIn t) ys
   rows-best =
-      subst (λ l. Best (length (t .steps)) (t .edges) l) rows-taken
-      (subst (λ o. Best (length (contentsOf o .steps)) (contentsOf o .edges) (take (f .n) (f .rows))) (found .said) (h .best a))
+      subst (λ l. Best (length (t .steps)) (orientedIn t) l) rows-taken
+      (subst (λ o. Best (length (contentsOf o .steps)) (orientedIn (contentsOf o)) (take (f .n) (f .rows))) (found .said) (h .best a))
 
   node-count : f .n ≡ length (t .steps)
   node-count = sym (length-take-le (f .n) (f .rows) (h .handable .storable a .few-rows)) ∙ ap length rows-taken ∙ rows-best .one-a-node
 
-  figures-are : chartedBy f .figures ≡ charted ys (t .edges) .figures
+  figures-are : chartedBy f .figures ≡ charted ys (orientedIn t) .figures
   figures-are = ap (λ (c : Charted). c .figures) (found .holds)
 
-  points-counted : f .points ≡ pointCount ys (t .edges)
+  points-counted : f .points ≡ pointCount ys (orientedIn t)
   points-counted = ap (λ (g : Figures). g .points) figures-are
 
-  pub opened : Opened bytes table f
+  flags-turned : flags ≡ padded maxEdges false (turnedIn t)
+  flags-turned = turned ∙ place-flags bytes ∙ rw (found .rows-found, found .said) refl
+
+  few-turned : length (turnedIn t) ≤ maxEdges
+  few-turned = subst (λ k. k ≤ maxEdges) (sym (turned-length (length (t .steps)) (t .edges))) (read-fair bytes (found .said) .few-edges)
+
+  edges-directed : directedBy flags (take (table .m) (table .edges)) ≡ orientedIn t
+  edges-directed =
+      ap (directedBy flags) (array-edges bytes table same t (found .said)) ∙ ap (λ b. directedBy b (t .edges)) flags-turned
+      ∙ padded-directs (turnedIn t) (t .edges) ∙ directed-oriented (length (t .steps)) (t .edges)
+
+  pub opened : Opened bytes table flags f
   opened =
       record {
         placing = found .placing;
@@ -132,7 +153,9 @@ module _ (bytes : List ℕ) (table : Table) (f : ChartFound) (same : table ≡ r
         f-n = node-count ∙ sym (array-steps bytes table same t (found .said));
         steps-are = array-list bytes table same t (found .said);
         m-is = array-count bytes table same t (found .said);
-        edges-are = array-edges bytes table same t (found .said);
+        flags-are = flags-turned;
+        flags-long = ap length flags-turned ∙ padded-long maxEdges false (turnedIn t) few-turned;
+        edges-are = edges-directed;
         edges-long = array-long bytes table same t (found .said);
         rows-are = rows-taken;
         best = rows-best;

@@ -12,7 +12,7 @@ use lib.Seq.{drop-append-seam}
 use Rattle.graph.specs.declared.Edge.{Edge}
 use Rattle.graph.specs.Rows.{at}
 use Rattle.table.specs.declared.types.Step.{Step}
-use Rattle.table.specs.Limits.{maxSteps}
+use Rattle.table.specs.Limits.{maxSteps, maxEdges}
 use Rattle.table.specs.Calls.{noStep}
 use Rattle.buffers.specs.Padded.{padded}
 use Rattle.points.specs.Points.{Dummy, pointRows, rowCount}
@@ -114,11 +114,13 @@ unfolding padded
 getD-padded k d l i = getD-blanks l (k - length l) i d
 
 -- so a point's text by the arrays is its text by the lists
-pub label-is : (bytes : List ℕ) (steps array : List Step) (ds : List Dummy) (p : ℕ) → array ≡ padded maxSteps noStep steps
-    → labelText bytes array (length steps) (ownersOf ds) p ≡ pointText bytes steps ds p
-label-is bytes steps array ds p e =
+pub label-is : (bytes : List ℕ) (steps array : List Step) (ds : List Dummy) (turned flags : List Bool) (p : ℕ) → array ≡ padded maxSteps noStep steps
+    → flags ≡ padded maxEdges false turned → labelText bytes array (length steps) (ownersOf ds) flags p ≡ pointText bytes steps ds turned p
+label-is bytes steps array ds turned flags p e g =
     let s : getD array p noStep ≡ getD steps p noStep = ap (λ l. getD l p noStep) e ∙ getD-padded maxSteps noStep steps p in
     let d : at (ownersOf ds) (p - length steps) ≡ getD ds (p - length steps) noDummy .edge =
     List·getD-map (λ (x : Dummy). x .edge) ds (p - length steps) noDummy in
-    ap (λ x. cond (ltb p (length steps)) (stepText bytes x) (dummyText (at (ownersOf ds) (p - length steps)))) s
-    ∙ ap (λ x. cond (ltb p (length steps)) (stepText bytes (getD steps p noStep)) (dummyText x)) d
+    let b : (k : ℕ) → getD flags k false ≡ getD turned k false = λ k. ap (λ l. getD l k false) g ∙ getD-padded maxEdges false turned k in
+    ap (λ x. cond (ltb p (length steps)) (stepText bytes x) (dummyText (getD flags (at (ownersOf ds) (p - length steps)) false) (at (ownersOf ds) (p - length steps)))) s
+    ∙ ap (λ x. cond (ltb p (length steps)) (stepText bytes (getD steps p noStep)) (dummyText (getD flags x false) x)) d
+    ∙ ap (λ x. cond (ltb p (length steps)) (stepText bytes (getD steps p noStep)) (dummyText x (getD ds (p - length steps) noDummy .edge))) (b (getD ds (p - length steps) noDummy .edge))

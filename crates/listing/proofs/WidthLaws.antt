@@ -2,7 +2,6 @@
 use mathlib.Core.Path.{_≡_, refl, sym, subst}
 use mathlib.Core.Bool.{Bool, true, false, cond}
 use mathlib.Core.List.{List, [], _∷_, _++_, map, flatten}
-use mathlib.Core.Option.{Option, none, some}
 use Prim.Native.Nat.{ℕ, zero, suc, _+_, _*_, _-_, _≤_, _<_, zero-le}
 use native.Mathlib.Nat.{mul-le-mul-right, add-mul}
 use native.Mathlib.Omega.{arith}
@@ -11,11 +10,11 @@ use lib.Dec.{ltb, leb}
 use lib.ListN.{length, getD, take, drop, length-append, length-take}
 use Rattle.graph.specs.declared.Edge.{Edge}
 use Rattle.graph.specs.Rows.{at, noEdge, total, Within}
-use Rattle.graph.specs.Search.{run, rowsOf}
+use Rattle.graph.specs.Search.{run}
 use Rattle.table.specs.declared.types.Kind.{Kind}
 use Rattle.table.specs.declared.types.Kind.the-variants.{Check, Adjust, Wait}
 use Rattle.outcome.specs.declared.Refusal.{Refusal}
-use Rattle.outcome.specs.declared.Refusal.the-variants.{Cut, Overlong, BadEdition, ManySteps, BadKind, OutOfRange, BadNameByte, ManyEdges, BadEnd, Spare, Loop, ManyPoints, ShortBuffer, NoStep}
+use Rattle.outcome.specs.declared.Refusal.the-variants.{Cut, Overlong, BadEdition, ManySteps, BadKind, OutOfRange, BadNameByte, ManyEdges, BadEnd, Spare, Loop, ManyPoints, ShortBuffer, NoStep, BadFirmness}
 use Rattle.table.specs.declared.types.Step.{Step}
 use Rattle.table.specs.Limits.{maxSteps, maxEdges, maxWeight}
 use Rattle.points.specs.Limits.{maxPoints}
@@ -24,11 +23,10 @@ use Rattle.table.specs.Table.{Contents, read}
 use Rattle.table.specs.Calls.{noStep}
 use Rattle.table.specs.Fair.{KindInRange, FairStep, Fair}
 use Rattle.table.proofs.FairLaws.{read-fair}
-use Rattle.table.proofs.RangeLaws.{read-range}
-use Rattle.outcome.proofs.ToldLaws.{alone}
-use Rattle.acyclic.specs.Loops.{lowestOnLoop}
-use Rattle.rows.specs.Answers.{unlessLoop, rowsFound}
-use Rattle.rows.specs.Placed.{topRow}
+use Rattle.layering.specs.Calls.{tableRowsFound, orientedIn, turnedIn}
+use Rattle.layering.proofs.RankLaws.{ranked-rows}
+use Rattle.layering.proofs.CallLaws.{read-oriented}
+use Rattle.rows.specs.Placed.{topRow, FairEdges}
 use Rattle.rows.proofs.StepLaws.{StepLow, never}
 use Rattle.ordering.proofs.StepLaws.{chart-of-step}
 use Rattle.points.specs.Points.{Dummy, between, dummies, rowCount}
@@ -39,10 +37,10 @@ use Rattle.ordering.proofs.FigureLaws.{crossings-low, total-low}
 use Rattle.labels.specs.Text.{text, newline, decimal, blanked}
 use Rattle.lines.specs.Lines.{line, refusalText}
 use Rattle.labels.specs.Labels.{kindText, stepText, dummyText}
-use Rattle.listing.specs.Listing.{noDummy, pointText, headText, rowLines, chartText, outcomeText, listing}
+use Rattle.listing.specs.Listing.{noDummy, dummySign, pointText, headText, rowLines, chartText, outcomeText, listing}
 use Rattle.listing.specs.Widths.{headBytes, rowBytes, pointBytes, maxListing}
 use Rattle.labels.proofs.DecimalLaws.{tens, decimal-short}
-use Rattle.rows.proofs.HeightLaws.{found-low}
+use Rattle.rows.proofs.HeightLaws.{rows-top}
 use Rattle.points.proofs.RowCountLaws.{count-low}
 
 -- ---- lines
@@ -108,18 +106,23 @@ dummies-numbered ys i (e ∷ edges) =
     numbered-more (i + length (e ∷ edges)) i (run (suc (at ys (e .from))) (between ys e)) (dummies ys (suc i) edges) (omega arith)
     (record { low = λ j. omega (arith, dummies-numbered ys (suc i) edges .low j) })
 
+-- a sign and a number
+dummy-length : (turned : Bool) (edge : ℕ) → length (dummyText turned edge) ≡ suc (length (decimal edge))
+dummy-length true edge = refl
+dummy-length false edge = refl
+
 -- a point is a step or a dummy; the number of a dummy's edge has at most three digits
 point-short : (bytes : List ℕ) (steps : List Step) (ds : List Dummy) → ((i : ℕ) → i < length steps → FairStep bytes (getD steps i noStep))
-    → Numbered maxEdges ds → (p : ℕ) → length (pointText bytes steps ds p) < pointBytes
-point-short bytes steps ds fair n p = go (ltb p (length steps)) refl
+    → Numbered maxEdges ds → (turned : List Bool) (p : ℕ) → length (pointText bytes steps ds turned p) < pointBytes
+point-short bytes steps ds fair n turned p = go (ltb p (length steps)) refl
   where
     go : (b : Bool) → ltb p (length steps) ≡ b
-        → length (cond b (stepText bytes (getD steps p noStep)) (dummyText (getD ds (p - length steps) noDummy .edge))) < pointBytes
+        → length (cond b (stepText bytes (getD steps p noStep)) (dummySign turned (getD ds (p - length steps) noDummy))) < pointBytes
     go true e = step-short bytes (getD steps p noStep) (fair p (ltb-true p (length steps) e))
     go false e =
         let k = getD ds (p - length steps) noDummy .edge in
         let low = n .low (p - length steps) in
-        omega (arith, decimal-short 2 k (omega arith))
+        omega (arith, dummy-length (getD turned k false) k, decimal-short 2 k (omega arith))
 
 -- ---- the chart
 
@@ -134,20 +137,21 @@ head-short n m height sum crossings a b c d e =
 record Drawable (bytes : List ℕ) (p : Placing) : Type 0 where
   fair : Fair bytes (p .contents)
   low : (v : ℕ) → at (p .rows) v ≤ topRow
-  few : pointCount (p .rows) (p .contents .edges) ≤ maxPoints
+  oriented-fair : FairEdges (length (p .contents .steps)) (orientedIn (p .contents))
+  few : pointCount (p .rows) (orientedIn (p .contents)) ≤ maxPoints
 
 module _ (bytes : List ℕ) (p : Placing) (h : Drawable bytes p) where
   abbrev steps-of : List Step
   steps-of = p .contents .steps
 
   abbrev edges-of : List Edge
-  edges-of = p .contents .edges
+  edges-of = orientedIn (p .contents)
 
   abbrev drawing : Drawing
   drawing = drawingOf (p .rows) edges-of
 
   abbrev show : ℕ → List ℕ
-  show = pointText bytes steps-of (dummies (p .rows) 0 edges-of)
+  show = pointText bytes steps-of (dummies (p .rows) 0 edges-of) (turnedIn (p .contents))
 
   few-rows : rowCount (p .rows) ≤ suc topRow
   few-rows = count-low topRow (p .rows) (h .low)
@@ -156,21 +160,21 @@ module _ (bytes : List ℕ) (p : Placing) (h : Drawable bytes p) where
   sum-low =
       omega (
         arith,
-        total-low edges-of (at (p .rows)) maxWeight topRow (λ i b. (h .fair .each-edge i b .weight-low, h .low (getD edges-of i noEdge .to))),
-        mul-le-mul-right (maxWeight * topRow) (h .fair .few-edges),
+        total-low edges-of (at (p .rows)) maxWeight topRow (λ i b. (h .oriented-fair .each i b .weight-low, h .low (getD edges-of i noEdge .to))),
+        mul-le-mul-right (maxWeight * topRow) (h .oriented-fair .few-edges),
       )
 
   few-crossings : drawing .crossings < tens 6
-  few-crossings = omega (arith, crossings-low (p .rows) edges-of (h .fair .few-edges) (h .few))
+  few-crossings = omega (arith, crossings-low (p .rows) edges-of (h .oriented-fair .few-edges) (h .few))
 
   shown-short : (q : ℕ) → length (show q) < pointBytes
   shown-short =
       point-short bytes steps-of (dummies (p .rows) 0 edges-of) (h .fair .each-step)
-      (record { low = λ j. omega (arith, dummies-numbered (p .rows) 0 edges-of .low j, h .fair .few-edges) })
+      (record { low = λ j. omega (arith, dummies-numbered (p .rows) 0 edges-of .low j, h .oriented-fair .few-edges) }) (turnedIn (p .contents))
 
-  heading-short : length (headText (length steps-of) (length edges-of) (rowCount (p .rows)) (total edges-of (at (p .rows))) (drawing .crossings)) ≤ headBytes
+  heading-short : length (headText (length steps-of) (length (p .contents .edges)) (rowCount (p .rows)) (total edges-of (at (p .rows))) (drawing .crossings)) ≤ headBytes
   heading-short =
-      head-short (length steps-of) (length edges-of) (rowCount (p .rows)) (total edges-of (at (p .rows))) (drawing .crossings)
+      head-short (length steps-of) (length (p .contents .edges)) (rowCount (p .rows)) (total edges-of (at (p .rows))) (drawing .crossings)
       (omega (arith, h .fair .few-steps)) (omega (arith, h .fair .few-edges)) (omega (arith, few-rows)) sum-low few-crossings
 
   -- a line for each row, and each point in one of them
@@ -183,7 +187,7 @@ module _ (bytes : List ℕ) (p : Placing) (h : Drawable bytes p) where
   chart-short : length (chartText bytes p) ≤ maxListing
   unfolding chartText
   chart-short =
-      let head = headText (length steps-of) (length edges-of) (rowCount (p .rows)) (total edges-of (at (p .rows))) (drawing .crossings) in
+      let head = headText (length steps-of) (length (p .contents .edges)) (rowCount (p .rows)) (total edges-of (at (p .rows))) (drawing .crossings) in
       rw (length-append head (rowLines show 0 (drawing .order))) (omega (arith, heading-short, lines-short))
 
 -- ---- a refusal
@@ -208,6 +212,7 @@ refusal-short (Loop s) h = simp length-append (omega (arith, decimal-short 1 11 
 refusal-short ManyPoints h = one-short 12 (omega arith)
 refusal-short ShortBuffer h = one-short 13 (omega arith)
 refusal-short NoStep h = one-short 14 (omega arith)
+refusal-short BadFirmness h = one-short 15 (omega arith)
 
 -- ---- the outcomes of a table
 
@@ -216,27 +221,29 @@ module _ (bytes : List ℕ) where
   unfolding chartOfTable
   drawable {p} e = go (read bytes) refl e
     where
-      many : (t : Contents) (ys : List ℕ) (b : Bool) → read bytes ≡ done t → rowsFound (length (t .steps)) (t .edges) ≡ done ys
-          → leb (pointCount ys (t .edges)) maxPoints ≡ b → demand b ManyPoints (done (record { contents = t; rows = ys })) ≡ done p → Drawable bytes p
+      many : (t : Contents) (ys : List ℕ) (b : Bool) → read bytes ≡ done t → tableRowsFound (length (t .steps)) (t .edges) ≡ done ys
+          → leb (pointCount ys (orientedIn t)) maxPoints ≡ b → demand b ManyPoints (done (record { contents = t; rows = ys })) ≡ done p → Drawable bytes p
       many t ys true r f l e =
           let fair = read-fair bytes r in
           let is : record { contents = t; rows = ys } ≡ p = cc in
           subst (Drawable bytes) is
           (record {
             fair = fair;
-            low = found-low (length (t .steps)) (t .edges) (fair .few-steps) (λ i b. fair .each-edge i b .gap-low) f;
-            few = leb-true (pointCount ys (t .edges)) maxPoints l;
+            low = λ v. subst (λ (l : List ℕ). at l v ≤ topRow) (sym (ranked-rows (length (t .steps)) (t .edges) f))
+                (rows-top (length (t .steps)) (orientedIn t) (fair .few-steps) (λ i b. read-oriented bytes r .each i b .gap-low) v);
+            oriented-fair = read-oriented bytes r;
+            few = leb-true (pointCount ys (orientedIn t)) maxPoints l;
           })
       many t ys false r f l e = never (sym e)
 
-      found : (t : Contents) (o : Outcome (List ℕ)) → read bytes ≡ done t → rowsFound (length (t .steps)) (t .edges) ≡ o
+      found : (t : Contents) (o : Outcome (List ℕ)) → read bytes ≡ done t → tableRowsFound (length (t .steps)) (t .edges) ≡ o
           → thenDo o (λ ys. unlessMany t ys) ≡ done p → Drawable bytes p
-      found t (done ys) r f e = many t ys (leb (pointCount ys (t .edges)) maxPoints) r f refl e
+      found t (done ys) r f e = many t ys (leb (pointCount ys (orientedIn t)) maxPoints) r f refl e
       found t (refused g) r f e = never (sym e)
 
       go : (o : Outcome Contents) → read bytes ≡ o
-          → thenDo o (λ t. thenDo (rowsFound (length (t .steps)) (t .edges)) (λ ys. unlessMany t ys)) ≡ done p → Drawable bytes p
-      go (done t) r e = found t (rowsFound (length (t .steps)) (t .edges)) r refl e
+          → thenDo o (λ t. thenDo (tableRowsFound (length (t .steps)) (t .edges)) (λ ys. unlessMany t ys)) ≡ done p → Drawable bytes p
+      go (done t) r e = found t (tableRowsFound (length (t .steps)) (t .edges)) r refl e
       go (refused g) r e = never (sym e)
 
 -- ---- the listing

@@ -7,6 +7,7 @@ use ordering::chart_table;
 use ordering::types::ChartFound;
 use outcome::Verdict;
 use points::limits::MAX_POINTS;
+use table::limits::MAX_EDGES;
 use table::types::Table;
 ghost use mathlib.Core.Path.{_≡_};
 ghost use Prim.Native.Nat.{_≤_};
@@ -14,6 +15,7 @@ ghost use lib.ListN.{length};
 ghost use Rattle.table.specs.Calls.{readCall};
 ghost use Rattle.outcome.specs.declared.Verdict.the-variants.{Accepted};
 ghost use Rattle.buffers.specs.Written.{Stored};
+ghost use Rattle.layering.specs.Calls.{placeCall};
 ghost use Rattle.ordering.specs.Charting.{TableFound};
 ghost use Rattle.listing.specs.Listing.{listing};
 ghost use Rattle.listing.specs.Widths.{maxListing};
@@ -25,17 +27,25 @@ pub fn print_page(bytes: &[u8], page: &mut [u8]) -> usize
 {
     let charted = chart_table(bytes);
     let table = charted.table;
+    let turned = charted.turned;
     let found = charted.found;
     let verdict = found.verdict;
     match verdict {
         Verdict::Refused(f) => put_refusal(f, page),
-        Verdict::Accepted => print_chart(bytes, table, found, page),
+        Verdict::Accepted => print_chart(bytes, table, turned, found, page),
     }
 }
 
-// Those of a table that has a chart.
-fn print_chart(bytes: &[u8], table: Table, found: ChartFound, page: &mut [u8]) -> usize
+// Those of a table that has a chart, with the edges that are turned.
+fn print_chart(
+    bytes: &[u8],
+    table: Table,
+    turned: [bool; MAX_EDGES],
+    found: ChartFound,
+    page: &mut [u8],
+) -> usize
     requires { ⌜ table ≡ readCall (now bytes) .table ⌝ }
+    requires { ⌜ turned ≡ placeCall (now bytes) .turned ⌝ }
     requires { ⌜ TableFound (now bytes) found ⌝ }
     requires { ⌜ found .verdict ≡ Accepted ⌝ }
     requires { ⌜ maxListing ≤ length (now page) ⌝ }
@@ -50,7 +60,7 @@ fn print_chart(bytes: &[u8], table: Table, found: ChartFound, page: &mut [u8]) -
     let ys = &found_rows[..n];
     let mut owners = [0usize; MAX_POINTS];
     let mut rows = [0usize; MAX_POINTS];
-    let d = lay_dummies(edges, table.m, ys, &mut owners, &mut rows);
+    let d = lay_dummies(edges, turned, table.m, ys, &mut owners, &mut rows);
     let figures = [n, table.m, found.height, found.total, found.crossings];
     let next = put_line(b"chart", &figures, page);
     put_rows(
@@ -58,6 +68,7 @@ fn print_chart(bytes: &[u8], table: Table, found: ChartFound, page: &mut [u8]) -
         steps,
         ys,
         &owners[..d],
+        turned,
         &rows[..d],
         &order[..points],
         found.height,

@@ -22,8 +22,14 @@ use Rattle.buffers.specs.Padded.{padded}
 use Rattle.table.proofs.FairLaws.{read-fair}
 use Rattle.table.proofs.ArrayLaws.{array-steps, array-edges, array-few, array-long}
 use Rattle.rows.specs.declared.types.RowsFound.{RowsFound}
-use Rattle.rows.specs.Answers.{rowsFound, rowsBy, totalBy}
-use Rattle.layering.specs.Calls.{rowsOfTable, TablePlaced}
+use Rattle.rows.specs.Answers.{rowsBy, totalBy}
+use Rattle.graph.specs.Directed.{directedBy}
+use Rattle.graph.proofs.DirectedLaws.{directed-take}
+use Rattle.buffers.proofs.PaddedLaws.{padded-long}
+use Rattle.acyclic.proofs.OrientedLaws.{turned-length, directed-oriented}
+use Rattle.layering.specs.Calls.{tableRowsFound, rowsOfTable, orientedIn, turnedIn, stepsIn, edgesIn, TablePlaced, flagArray, placeCall}
+use Rattle.layering.proofs.RankLaws.{padded-directs}
+use Rattle.layering.proofs.CallLaws.{read-oriented}
 use Rattle.rows.specs.Placed.{outcomeBy}
 use Rattle.ordering.specs.declared.ChartAnswer.{ChartAnswer}
 use Rattle.ordering.specs.declared.types.ChartFound.{ChartFound}
@@ -34,10 +40,10 @@ use Rattle.ordering.proofs.ChartLaws.{found-refused}
 use Rattle.ordering.proofs.HandLaws.{handed-best}
 
 -- what is handed out of a table whose rows are known
-out-large : (t : Contents) (rows : List ℕ) → chartOut (unlessMany t rows) ≡ unlessLarge rows (t .edges)
-out-large t rows = go (leb (pointCount rows (t .edges)) maxPoints)
+out-large : (t : Contents) (rows : List ℕ) → chartOut (unlessMany t rows) ≡ unlessLarge rows (orientedIn t)
+out-large t rows = go (leb (pointCount rows (orientedIn t)) maxPoints)
   where
-    go : (b : Bool) → chartOut (demand b ManyPoints (done (record { contents = t; rows = rows }))) ≡ demand b ManyPoints (done (charted rows (t .edges)))
+    go : (b : Bool) → chartOut (demand b ManyPoints (done (record { contents = t; rows = rows }))) ≡ demand b ManyPoints (done (charted rows (orientedIn t)))
     go true = refl
     go false = refl
 
@@ -45,38 +51,39 @@ out-refused : (bytes : List ℕ) {r : Refusal} → refused r ≡ rowsOfTable byt
 unfolding chartOfTable rowsOfTable
 out-refused bytes {r} e = go (read bytes) e
   where
-    go : (o : Outcome Contents) → refused r ≡ thenDo o (λ t. rowsFound (length (t .steps)) (t .edges))
-        → chartOut (thenDo o λ t. thenDo (rowsFound (length (t .steps)) (t .edges)) λ rows. unlessMany t rows) ≡ refused r
+    go : (o : Outcome Contents) → refused r ≡ thenDo o (λ t. tableRowsFound (length (t .steps)) (t .edges))
+        → chartOut (thenDo o λ t. thenDo (tableRowsFound (length (t .steps)) (t .edges)) λ rows. unlessMany t rows) ≡ refused r
     go (done t) w = rw (sym w)
     go (refused k) w = cc
 
-module _ (bytes : List ℕ) (table : Table) (f : RowsFound) (same : table ≡ readCall bytes .table) (placed : TablePlaced bytes f) where
+module _ (bytes : List ℕ) (table : Table) (flags : List Bool) (f : RowsFound) (same : table ≡ readCall bytes .table)
+    (set : flags ≡ flagArray (stepsIn bytes) (contentsOf (read bytes) .edges) (rowsOfTable bytes)) (placed : TablePlaced bytes f) where
   pub table-refused : {r : Refusal} → f .verdict ≡ Refused r → (c : ChartFound) → c ≡ noChart r → TableFound bytes c
   table-refused {r} e c v =
       found-refused _ _ _ c v
-      (out-refused bytes (sym (ap (λ u. outcomeBy u (take (length (contentsOf (read bytes) .steps)) (f .rows))) e) ∙ placed .says))
+      (out-refused bytes (sym (ap (λ u. outcomeBy u (take (stepsIn bytes) (f .rows))) e) ∙ placed .says))
 
   -- an accepted table has contents, and rows
   pub record Taken : Type 0 where
     pub contents : Contents
     pub outcome : read bytes ≡ done contents
-    pub rows-are : done (take (length (contents .steps)) (f .rows)) ≡ rowsFound (length (contents .steps)) (contents .edges)
+    pub rows-are : done (take (length (contents .steps)) (f .rows)) ≡ tableRowsFound (length (contents .steps)) (contents .edges)
 
   module _ (a : f .verdict ≡ Accepted) where
     pub taken : Taken
     unfolding rowsOfTable
     taken =
         go (read bytes) refl
-        (sym (ap (λ u. outcomeBy u (take (length (contentsOf (read bytes) .steps)) (f .rows))) a) ∙ placed .says)
+        (sym (ap (λ u. outcomeBy u (take (stepsIn bytes) (f .rows))) a) ∙ placed .says)
       where
         go : (o : Outcome Contents) → read bytes ≡ o
-            → done (take (length (contentsOf o .steps)) (f .rows)) ≡ thenDo o (λ t. rowsFound (length (t .steps)) (t .edges)) → Taken
+            → done (take (length (contentsOf o .steps)) (f .rows)) ≡ thenDo o (λ t. tableRowsFound (length (t .steps)) (t .edges)) → Taken
         go (done t) e w = record { contents = t; outcome = e; rows-are = w }
         go (refused k) e w = let z : _≡_ {A = ℕ} 0 1 = cc in absurd (omega arith)
 
     module _ (t : Taken) where
       abbrev edges-of : List Edge
-      edges-of = t .contents .edges
+      edges-of = orientedIn (t .contents)
 
       pub table-few : table .m ≤ maxEdges
       table-few = array-few bytes table same (t .contents) (t .outcome)
@@ -87,35 +94,42 @@ module _ (bytes : List ℕ) (table : Table) (f : RowsFound) (same : table ≡ re
       table-n : table .n ≡ length (t .contents .steps)
       table-n = array-steps bytes table same (t .contents) (t .outcome)
 
-      table-same : take (table .m) (table .edges) ≡ edges-of
-      table-same = array-edges bytes table same (t .contents) (t .outcome)
+      -- what was found is the rows in the array
+      rows-here : rowsOfTable bytes ≡ done (take (stepsIn bytes) (f .rows))
+      rows-here = sym (placed .says) ∙ ap (λ u. outcomeBy u (take (stepsIn bytes) (f .rows))) a
 
-      steps-same : length (contentsOf (read bytes) .steps) ≡ length (t .contents .steps)
+      -- the flags direct the table's edges as they are kept or turned
+      table-same : take (table .m) (directedBy flags (table .edges)) ≡ edges-of
+      table-same =
+          directed-take flags (table .m) (table .edges)
+          ∙ ap (directedBy flags) (array-edges bytes table same (t .contents) (t .outcome))
+          ∙ ap (λ b. directedBy b (t .contents .edges)) (set ∙ flags-are)
+          ∙ padded-directs (turnedIn (t .contents)) (t .contents .edges)
+          ∙ directed-oriented (length (t .contents .steps)) (t .contents .edges)
+        where
+          flags-are : flagArray (stepsIn bytes) (contentsOf (read bytes) .edges) (rowsOfTable bytes) ≡ padded maxEdges false (turnedIn (t .contents))
+          flags-are = rw (rows-here, t .outcome) refl
+
+      pub flags-long : length flags ≡ maxEdges
+      flags-long = ap length set ∙ rw (rows-here, t .outcome) (padded-long maxEdges false (turnedIn (t .contents))
+          (subst (λ k. k ≤ maxEdges) (sym (turned-length (length (t .contents .steps)) (t .contents .edges))) (read-fair bytes (t .outcome) .few-edges)))
+
+      steps-same : stepsIn bytes ≡ length (t .contents .steps)
       steps-same = ap (λ o. length (contentsOf o .steps)) (t .outcome)
 
-      edges-same : contentsOf (read bytes) .edges ≡ edges-of
-      edges-same = ap (λ o. contentsOf o .edges) (t .outcome)
+      edges-same : edgesIn bytes ≡ edges-of
+      edges-same = ap (λ o. orientedIn (contentsOf o)) (t .outcome)
 
-      -- what was found is the rows in the array
-      rows-here : rowsOfTable bytes ≡ done (take (length (contentsOf (read bytes) .steps)) (f .rows))
-      rows-here = sym (placed .says) ∙ ap (λ u. outcomeBy u (take (length (contentsOf (read bytes) .steps)) (f .rows))) a
+      summed : f .total ≡ total (edgesIn bytes) (at (take (stepsIn bytes) (f .rows)))
+      summed = placed .summed ∙ ap (totalBy (edgesIn bytes)) rows-here
 
-      summed : f .total ≡ total (contentsOf (read bytes) .edges) (at (take (length (contentsOf (read bytes) .steps)) (f .rows)))
-      summed = placed .summed ∙ ap (totalBy (contentsOf (read bytes) .edges)) rows-here
-
-      blank : f .rows ≡ padded maxSteps 0 (take (length (contentsOf (read bytes) .steps)) (f .rows))
+      blank : f .rows ≡ padded maxSteps 0 (take (stepsIn bytes) (f .rows))
       blank = placed .blank ∙ ap (λ o. padded maxSteps 0 (rowsBy o)) rows-here
 
-      solved-of : RowsGiven (length (contentsOf (read bytes) .steps)) (contentsOf (read bytes) .edges) (f .rows) (f .total)
+      solved-of : RowsGiven (stepsIn bytes) (edgesIn bytes) (f .rows) (f .total)
       solved-of =
           record {
-            fair =
-                rw (t .outcome)
-                (record {
-                  few-steps = read-fair bytes (t .outcome) .few-steps;
-                  few-edges = read-fair bytes (t .outcome) .few-edges;
-                  each = read-fair bytes (t .outcome) .each-edge;
-                });
+            fair = rw (t .outcome) (read-oriented bytes (t .outcome));
             best = placed .best a;
             summed = summed;
             blank = blank;
@@ -123,20 +137,20 @@ module _ (bytes : List ℕ) (table : Table) (f : RowsFound) (same : table ≡ re
             low = placed .low .low a;
           }
 
-      pub table-solved : RowsGiven (table .n) (take (table .m) (table .edges)) (f .rows) (f .total)
+      pub table-solved : RowsGiven (table .n) (take (table .m) (directedBy flags (table .edges))) (f .rows) (f .total)
       table-solved =
-          subst (λ (k : ℕ). RowsGiven k (take (table .m) (table .edges)) (f .rows) (f .total)) (steps-same ∙ sym table-n)
-          (subst (λ (l : List Edge). RowsGiven (length (contentsOf (read bytes) .steps)) l (f .rows) (f .total)) (edges-same ∙ sym table-same) solved-of)
+          subst (λ (k : ℕ). RowsGiven k (take (table .m) (directedBy flags (table .edges))) (f .rows) (f .total)) (steps-same ∙ sym table-n)
+          (subst (λ (l : List Edge). RowsGiven (stepsIn bytes) l (f .rows) (f .total)) (edges-same ∙ sym table-same) solved-of)
 
       out-of : chartOut (chartOfTable bytes) ≡ unlessLarge (take (length (t .contents .steps)) (f .rows)) edges-of
       unfolding chartOfTable
       out-of = rw (t .outcome, sym (t .rows-are)) (out-large (t .contents) (take (length (t .contents .steps)) (f .rows)))
 
-      pub table-drawn : (c : ChartFound) → EdgesFound (table .n) (take (table .m) (table .edges)) (take (table .n) (f .rows)) c → TableFound bytes c
+      pub table-drawn : (c : ChartFound) → EdgesFound (table .n) (take (table .m) (directedBy flags (table .edges))) (take (table .n) (f .rows)) c → TableFound bytes c
       table-drawn c e =
           rw (out-of, t .outcome)
           (subst (λ (l : List Edge). EdgesFound (length (t .contents .steps)) l (take (length (t .contents .steps)) (f .rows)) c) table-same
-          (subst (λ (k : ℕ). EdgesFound k (take (table .m) (table .edges)) (take k (f .rows)) c) table-n e))
+          (subst (λ (k : ℕ). EdgesFound k (take (table .m) (directedBy flags (table .edges))) (take k (f .rows)) c) table-n e))
 
 -- ---- the whole chart
 
@@ -151,13 +165,14 @@ chart-call bytes f rows order rows′ order′ r p h =
     (k .numbers, (k .rows-are, (k .order-is, handed-best _ _ _ f p rows order rows′ order′ r k)))
 
 -- what the functions behind the chart found is what a layer above is promised
-pub chart-end : (bytes : List ℕ) (r : TableChart) → r .table ≡ readCall bytes .table → TableFound bytes (r .found) → drawEnd r ≡ drawCall bytes
+pub chart-end : (bytes : List ℕ) (r : TableChart) → r .table ≡ placeCall bytes .table → r .turned ≡ placeCall bytes .turned → TableFound bytes (r .found)
+    → drawEnd r ≡ drawCall bytes
 unfolding drawCall
-chart-end bytes r t p = three numbers t (p .whole)
+chart-end bytes r t b p = four numbers t b (p .whole)
   where
-    three : {x x′ : List ℕ} {y y′ : Table} {z z′ : ChartArrays} → x ≡ x′ → y ≡ y′ → z ≡ z′
-        → _≡_ {A = DrawEnd} (record { numbers = x; table = y; arrays = z }) (record { numbers = x′; table = y′; arrays = z′ })
-    three a b c = rw (a, b, c)
+    four : {x x′ : List ℕ} {y y′ : Table} {w w′ : List Bool} {z z′ : ChartArrays} → x ≡ x′ → y ≡ y′ → w ≡ w′ → z ≡ z′
+        → _≡_ {A = DrawEnd} (record { numbers = x; table = y; turned = w; arrays = z }) (record { numbers = x′; table = y′; turned = w′; arrays = z′ })
+    four a b c d = rw (a, b, c, d)
 
     numbers : verdictNumbers (r .found .verdict) ≡ told bare (chartOfTable bytes)
     numbers = go (r .found .verdict) (chartOfTable bytes) (p .says)
@@ -168,7 +183,12 @@ chart-end bytes r t p = three numbers t (p .whole)
         go (Refused k) (done x) e = let z : _≡_ {A = ℕ} 0 1 = cc in absurd (omega arith)
         go (Refused k) (refused j) e = let q : k ≡ j = cc in ap numbersOf q
 
--- the table that comes with it
-pub chart-here : (bytes : List ℕ) (r : TableChart) → drawEnd r ≡ drawCall bytes → r .table ≡ readCall bytes .table
-unfolding drawCall
-chart-here bytes r e = ap (λ (x : DrawEnd). x .table) e
+-- the table that comes with it, and its flags
+module _ (bytes : List ℕ) (r : TableChart) (e : drawEnd r ≡ drawCall bytes) where
+  pub chart-here : r .table ≡ readCall bytes .table
+  unfolding drawCall placeCall
+  chart-here = ap (λ (x : DrawEnd). x .table) e
+
+  pub chart-turned : r .turned ≡ placeCall bytes .turned
+  unfolding drawCall
+  chart-turned = ap (λ (x : DrawEnd). x .turned) e

@@ -18,9 +18,9 @@ use Rattle.points.specs.Limits.{maxPoints}
 use Rattle.outcome.specs.Refusal.{Outcome, done, refused, thenDo, demand, numbersOf, refusalIn}
 use Rattle.outcome.proofs.ToldLaws.{number-some}
 use Rattle.table.specs.Table.{Contents, contentsOf, read}
-use Rattle.table.proofs.FairLaws.{read-fair}
-use Rattle.rows.specs.Answers.{rowsFound}
-use Rattle.rows.specs.Placed.{topRow, FairEdges}
+use Rattle.layering.specs.Calls.{tableRowsFound, orientedIn}
+use Rattle.layering.proofs.CallLaws.{read-oriented}
+use Rattle.rows.specs.Placed.{topRow}
 use Rattle.rows.proofs.PlacedLaws.{best-low}
 use Rattle.ordering.specs.declared.Figures.{Figures}
 use Rattle.points.specs.Points.{pointRows, segments, rowCount}
@@ -76,45 +76,43 @@ figures-same f g e =
 module _ (bytes rows order : List ℕ) (f : Figures) (buffer : List ℕ) where
   -- what demand 3 says of the chart that has these figures
   abbrev Best-of : Contents → Type 0
-  Best-of t = DrawnBest (length (t .steps)) (t .edges) (0 ∷ figuresNumbers f) buffer
+  Best-of t = DrawnBest (length (t .steps)) (orientedIn t) (0 ∷ figuresNumbers f) buffer
 
   never : {X : Type 0} (r : Refusal) → numbersOf r ≡ 0 ∷ figuresNumbers f → X
   never r e = absurd (omega (arith, number-some r, ap refusalIn e))
 
   low : (t : Contents) → read bytes ≡ done t → Best-of t → (v : ℕ) → v < length (t .steps) → at (take (length (t .steps)) buffer) v ≤ topRow
   low t r b v h =
-      let fair = read-fair bytes r in
       let n = length (t .steps) in
-      let edges : FairEdges n (t .edges) = record { few-steps = fair .few-steps; few-edges = fair .few-edges; each = fair .each-edge } in
-      rw (getD-take n buffer v 0 h) (best-low n (t .edges) buffer edges (b refl .0) v h)
+      rw (getD-take n buffer v 0 h) (best-low n (orientedIn t) buffer (read-oriented bytes r) (b refl .0) v h)
 
-  small : (t : Contents) (ys : List ℕ) → read bytes ≡ done t → length (pointRows ys (t .edges)) ≤ maxPoints
-      → charted ys (t .edges) .figures ≡ f → Best-of t → Small f
+  small : (t : Contents) (ys : List ℕ) → read bytes ≡ done t → length (pointRows ys (orientedIn t)) ≤ maxPoints
+      → charted ys (orientedIn t) .figures ≡ f → Best-of t → Small f
   small t ys r p e b =
-      let fair = read-fair bytes r in
+      let fair = read-oriented bytes r in
       let n = length (t .steps) in
       record {
         few-points = subst (λ (x : Figures). x .points ≤ maxPoints) e p;
         few-crossings =
             subst (λ (x : Figures). 2 * x .crossings ≤ (maxPoints + maxEdges) * (maxPoints + maxEdges)) e
-            (crossings-low ys (t .edges) (fair .few-edges) p);
+            (crossings-low ys (orientedIn t) (fair .few-edges) p);
         low-total =
             omega (
               arith,
               b refl .1,
-              total-low (t .edges) (at (take n buffer)) maxWeight topRow (λ i h. (fair .each-edge i h .weight-low, low t r b (getD (t .edges) i noEdge .to) (fair .each-edge i h .to-in))),
+              total-low (orientedIn t) (at (take n buffer)) maxWeight topRow (λ i h. (fair .each i h .weight-low, low t r b (getD (orientedIn t) i noEdge .to) (fair .each i h .to-in))),
               mul-le-mul-left (maxWeight * topRow) (fair .few-edges),
-              mul-comm (length (t .edges)) (maxWeight * topRow),
+              mul-comm (length (orientedIn t)) (maxWeight * topRow),
               mul-comm maxEdges (maxWeight * topRow),
             );
       }
 
-  end : (t : Contents) (ys : List ℕ) (b : Bool) → read bytes ≡ done t → length (pointRows ys (t .edges)) ≤ maxPoints
+  end : (t : Contents) (ys : List ℕ) (b : Bool) → read bytes ≡ done t → length (pointRows ys (orientedIn t)) ≤ maxPoints
       → cond {A = ChartEnd} b
-      (record { numbers = 0 ∷ figuresNumbers (charted ys (t .edges) .figures); rows = filled ys rows; order = filled (charted ys (t .edges) .order) order })
+      (record { numbers = 0 ∷ figuresNumbers (charted ys (orientedIn t) .figures); rows = filled ys rows; order = filled (charted ys (orientedIn t) .order) order })
       (record { numbers = numbersOf ShortBuffer; rows = rows; order = order }) .numbers ≡ 0 ∷ figuresNumbers f
       → Best-of t → Small f
-  end t ys true r p e b = small t ys r p (figures-same (charted ys (t .edges) .figures) f e) b
+  end t ys true r p e b = small t ys r p (figures-same (charted ys (orientedIn t) .figures) f e) b
   end t ys false r p e b = never ShortBuffer e
 
   -- a chart that is handed out has small figures
@@ -122,20 +120,20 @@ module _ (bytes rows order : List ℕ) (f : Figures) (buffer : List ℕ) where
   unfolding chartCall chartOfTable
   figures-small = go (read bytes) refl
     where
-      many : (t : Contents) (ys : List ℕ) (b : Bool) → read bytes ≡ done t → leb (pointCount ys (t .edges)) maxPoints ≡ b
+      many : (t : Contents) (ys : List ℕ) (b : Bool) → read bytes ≡ done t → leb (pointCount ys (orientedIn t)) maxPoints ≡ b
           → chartEnd (chartOut (demand b ManyPoints (done (record { contents = t; rows = ys })))) rows order .numbers ≡ 0 ∷ figuresNumbers f
           → Best-of t → Small f
       many t ys true r p e b =
-          end t ys (leb (length ys) (length rows) && leb (length (charted ys (t .edges) .order)) (length order)) r (leb-true _ _ p) e b
+          end t ys (leb (length ys) (length rows) && leb (length (charted ys (orientedIn t) .order)) (length order)) r (leb-true _ _ p) e b
       many t ys false r p e b = never ManyPoints e
 
       found : (t : Contents) (o : Outcome (List ℕ)) → read bytes ≡ done t
           → chartEnd (chartOut (thenDo o (λ ys. unlessMany t ys))) rows order .numbers ≡ 0 ∷ figuresNumbers f → Best-of t → Small f
-      found t (done ys) r e b = many t ys (leb (pointCount ys (t .edges)) maxPoints) r refl e b
+      found t (done ys) r e b = many t ys (leb (pointCount ys (orientedIn t)) maxPoints) r refl e b
       found t (refused g) r e b = never g e
 
       go : (o : Outcome Contents) → read bytes ≡ o
-          → chartEnd (chartOut (thenDo o (λ t. thenDo (rowsFound (length (t .steps)) (t .edges)) (λ ys. unlessMany t ys)))) rows order .numbers
+          → chartEnd (chartOut (thenDo o (λ t. thenDo (tableRowsFound (length (t .steps)) (t .edges)) (λ ys. unlessMany t ys)))) rows order .numbers
           ≡ 0 ∷ figuresNumbers f → Best-of (contentsOf o) → Small f
-      go (done t) r e b = found t (rowsFound (length (t .steps)) (t .edges)) r e b
+      go (done t) r e b = found t (tableRowsFound (length (t .steps)) (t .edges)) r e b
       go (refused g) r e b = never g e

@@ -1,5 +1,5 @@
 -- A loop that copies the ends of edges to two arrays: it starts with none, a turn adds an edge, and its end has them all.
-use mathlib.Core.Path.{_≡_, refl, sym}
+use mathlib.Core.Path.{_≡_, refl, sym, subst}
 use mathlib.Core.List.{List}
 use Prim.Native.Nat.{ℕ, _+_, _≤_, _<_}
 use native.Mathlib.Omega.{arith}
@@ -34,6 +34,10 @@ module _ (edges : List Edge) where
           tails = copied-more maxEdges (from-of edges) i from h (s .tails);
           heads = copied-more maxEdges (to-of edges) i to h (s .heads);
         }
+
+    -- the same, of an edge that is read first
+    pub splitting-with : i < maxEdges → (e : Edge) → e ≡ getD edges i noEdge → Splitting edges (i + 1) (set from i (e .from)) (set to i (e .to))
+    splitting-with h e same = subst (λ (e : Edge). Splitting edges (i + 1) (set from i (e .from)) (set to i (e .to))) (sym same) (splitting-more h)
 
     pub splitting-all : (m : ℕ) → m ≤ i → m ≤ maxEdges → length edges ≡ maxEdges → Split m edges from to
     splitting-all m l few long =

@@ -12,11 +12,11 @@ use Rattle.points.specs.Limits.{maxPoints}
 use Rattle.outcome.specs.Refusal.{Outcome, done, refused, thenDo, numbersOf, refusalIn}
 use Rattle.table.specs.Table.{Contents, read}
 use Rattle.table.proofs.FairLaws.{read-fair}
-use Rattle.table.proofs.RangeLaws.{read-range}
+use Rattle.table.proofs.RangeLaws.{read-alone}
 use Rattle.outcome.proofs.ToldLaws.{numbers-same, number-some}
-use Rattle.outcome.proofs.ToldLaws.{alone}
-use Rattle.rows.specs.Answers.{rowsFound}
-use Rattle.rows.proofs.StepLaws.{StepLow, never, same, demand-step, found-step}
+use Rattle.rows.proofs.StepLaws.{StepLow, never, same, demand-step}
+use Rattle.layering.specs.Calls.{tableRowsFound, orientedIn}
+use Rattle.layering.proofs.StepLaws.{ranked-step}
 use Rattle.ordering.specs.Calls.{Placing, Charted, ChartEnd, pointCount, unlessMany, chartOfTable, charted, chartOut, figuresNumbers, filled, chartEnd, chartCall}
 
 pub chart-of-step : (bytes : List ℕ) {f : Refusal} → chartOfTable bytes ≡ refused f → StepLow f
@@ -24,14 +24,14 @@ unfolding chartOfTable
 chart-of-step bytes {f} e = go (read bytes) refl e
   where
     found : (t : Contents) (o : Outcome (List ℕ)) → ((g : Refusal) → o ≡ refused g → StepLow g) → thenDo o (λ rows. unlessMany t rows) ≡ refused f → StepLow f
-    found t (done rows) h e = demand-step (leb (pointCount rows (t .edges)) maxPoints) ManyPoints _ (omega arith) (λ _ k. never k) e
+    found t (done rows) h e = demand-step (leb (pointCount rows (orientedIn t)) maxPoints) ManyPoints _ (omega arith) (λ _ k. never k) e
     found t (refused g) h e = subst StepLow (same e) (h g refl)
 
     go : (o : Outcome Contents) → read bytes ≡ o
-        → thenDo o (λ t. thenDo (rowsFound (length (t .steps)) (t .edges)) (λ rows. unlessMany t rows)) ≡ refused f → StepLow f
+        → thenDo o (λ t. thenDo (tableRowsFound (length (t .steps)) (t .edges)) (λ rows. unlessMany t rows)) ≡ refused f → StepLow f
     go (done t) r e =
-        found t (rowsFound (length (t .steps)) (t .edges)) (λ g. found-step (length (t .steps)) (t .edges) (read-fair bytes r .few-steps)) e
-    go (refused g) r e = subst StepLow (same e) (omega (arith, alone g (λ k. omega (arith, read-range bytes r))))
+        found t (tableRowsFound (length (t .steps)) (t .edges)) (λ g. ranked-step (length (t .steps)) (t .edges) (read-fair bytes r .few-steps)) e
+    go (refused g) r e = subst StepLow (same e) (omega (arith, read-alone bytes r))
 
 pub chart-call-step : (bytes rows order : List ℕ) (f : Refusal) → numbersOf f ≡ chartCall bytes rows order .numbers → StepLow f
 unfolding chartCall
@@ -45,6 +45,6 @@ chart-call-step bytes rows order f e = go (chartOfTable bytes) refl e
 
     go : (o : Outcome Placing) → chartOfTable bytes ≡ o → numbersOf f ≡ chartEnd (chartOut o) rows order .numbers → StepLow f
     go (done p) r e =
-        let c = charted (p .rows) (p .contents .edges) in
+        let c = charted (p .rows) (orientedIn (p .contents)) in
         end c (leb (length (c .rows)) (length rows) && leb (length (c .order)) (length order)) e
     go (refused g) r e = subst StepLow (numbers-same g f (sym e)) (chart-of-step bytes r)

@@ -1,6 +1,6 @@
 -- The whole chart: what the call answers, and what its two buffers hold at its end.
 use mathlib.Core.Path.{_≡_}
-use mathlib.Core.Bool.{_&&_, cond}
+use mathlib.Core.Bool.{Bool, _&&_, cond}
 use mathlib.Core.List.{List, [], _∷_, _++_, flatten}
 use Prim.Native.Nat.{ℕ}
 use lib.Dec.{leb}
@@ -12,10 +12,9 @@ use Rattle.table.specs.declared.types.Table.{Table}
 use Rattle.table.specs.Limits.{maxSteps}
 use Rattle.points.specs.Limits.{maxPoints}
 use Rattle.outcome.specs.Refusal.{Outcome, done, refused, thenDo, demand, numbersOf, told, bare, verdictNumbers, refusalIn}
-use Rattle.table.specs.Table.{Contents, contentsOf, read}
-use Rattle.table.specs.Calls.{readCall}
+use Rattle.table.specs.Table.{Contents, read}
 use Rattle.buffers.specs.Padded.{padded}
-use Rattle.rows.specs.Answers.{rowsFound}
+use Rattle.layering.specs.Calls.{tableRowsFound, orientedIn, stepsIn, edgesIn, placeCall}
 use Rattle.ordering.specs.declared.Figures.{Figures}
 use Rattle.ordering.specs.declared.ChartAnswer.{ChartAnswer}
 use Rattle.ordering.specs.declared.ChartAnswer.the-variants.{Drawn, Refused}
@@ -37,11 +36,11 @@ pointCount rows edges = length (pointRows rows edges)
 
 -- too many points are refused (12)
 abbrev pub unlessMany : Contents → List ℕ → Outcome Placing
-unlessMany t rows = demand (leb (pointCount rows (t .edges)) maxPoints) ManyPoints (done (record { contents = t; rows = rows }))
+unlessMany t rows = demand (leb (pointCount rows (orientedIn t)) maxPoints) ManyPoints (done (record { contents = t; rows = rows }))
 
--- the refusals of the table, then of its rows (11), then 12
+-- the refusals of the table, then of its rows (11), then 12; the points are those of the edges as they are kept or turned
 unfoldable pub chartOfTable : List ℕ → Outcome Placing
-chartOfTable bytes = thenDo (read bytes) λ t. thenDo (rowsFound (length (t .steps)) (t .edges)) λ rows. unlessMany t rows
+chartOfTable bytes = thenDo (read bytes) λ t. thenDo (tableRowsFound (length (t .steps)) (t .edges)) λ rows. unlessMany t rows
 
 -- ---- what is handed out of it
 
@@ -67,7 +66,7 @@ charted rows edges =
     }
 
 abbrev pub chartOut : Outcome Placing → Outcome Charted
-chartOut o = thenDo o λ p. done (charted (p .rows) (p .contents .edges))
+chartOut o = thenDo o λ p. done (charted (p .rows) (orientedIn (p .contents)))
 
 -- ---- the buffers
 
@@ -111,9 +110,9 @@ totalTold numbers = getD numbers 2 0
 abbrev pub DrawnBest : ℕ → List Edge → List ℕ → List ℕ → Type 0
 DrawnBest n edges numbers rows = refusalIn numbers ≡ 0 → Best n edges (take n rows) × (totalTold numbers ≡ total edges (at (take n rows)))
 
--- for the steps and edges that a table's bytes say
+-- for the steps that a table's bytes say, and their edges as they are kept or turned
 abbrev pub ChartBest : List ℕ → List ℕ → List ℕ → Type 0
-ChartBest bytes numbers rows = DrawnBest (length (contentsOf (read bytes) .steps)) (contentsOf (read bytes) .edges) numbers rows
+ChartBest bytes numbers rows = DrawnBest (stepsIn bytes) (edgesIn bytes) numbers rows
 
 -- ---- what a layer above builds on
 
@@ -141,18 +140,20 @@ arraysOf c =
       figures = c .figures;
     }
 
--- the numbers of the outcome, the table, and the chart
+-- the numbers of the outcome, the table, which of its edges are turned, and the chart
 pub record DrawEnd : Type 0 where
   pub numbers : List ℕ
   pub table : Table
+  pub turned : List Bool
   pub arrays : ChartArrays
 
--- 0 or the refusal's number, with a blank chart where refused
+-- 0 or the refusal's number, with a blank chart where refused; the table and what is turned are as the rows leave them
 unfoldable pub drawCall : List ℕ → DrawEnd
 drawCall bytes =
     record {
       numbers = told bare (chartOfTable bytes);
-      table = readCall bytes .table;
+      table = placeCall bytes .table;
+      turned = placeCall bytes .turned;
       arrays = arraysOf (chartBy (chartOut (chartOfTable bytes)));
     }
 
@@ -169,4 +170,4 @@ arraysIn f =
 
 -- what the code answers, in numbers
 abbrev pub drawEnd : TableChart → DrawEnd
-drawEnd r = record { numbers = verdictNumbers (r .found .verdict); table = r .table; arrays = arraysIn (r .found) }
+drawEnd r = record { numbers = verdictNumbers (r .found .verdict); table = r .table; turned = r .turned; arrays = arraysIn (r .found) }

@@ -12,7 +12,7 @@ use Rattle.outcome.specs.declared.Verdict.the-variants.{Accepted, Refused}
 use Rattle.table.specs.Limits.{maxSteps, maxEdges, maxWeight}
 use Rattle.points.specs.Limits.{maxPoints}
 use Rattle.outcome.specs.Refusal.{Outcome, done, demand}
-use Rattle.table.specs.Table.{contentsOf, read}
+use Rattle.layering.specs.Calls.{stepsIn, edgesIn}
 use Rattle.buffers.specs.Padded.{padded}
 use Rattle.rows.specs.Placed.{outcomeBy, topRow, FairEdges}
 use Rattle.ordering.specs.declared.Figures.{Figures}
@@ -100,7 +100,7 @@ EdgesFound n edges rows f = ChartHeld n edges (unlessLarge rows edges) f
 
 -- the chart of a table
 abbrev pub TableFound : List ℕ → ChartFound → Type 0
-TableFound bytes f = ChartHeld (length (contentsOf (read bytes) .steps)) (contentsOf (read bytes) .edges) (chartOut (chartOfTable bytes)) f
+TableFound bytes f = ChartHeld (stepsIn bytes) (edgesIn bytes) (chartOut (chartOfTable bytes)) f
 
 -- an outcome handed out in two buffers
 pub record ChartHandedOut (what : Outcome Charted) (rows order rows′ order′ : List ℕ) (r : ChartAnswer) : Type 0 where

@@ -1,7 +1,8 @@
 // The chart of edges in their best rows: the order of its points, or why there is none.
 use crate::types::ChartFound;
 use drawing::draw_points;
-use graph::Edge;
+use graph::TableEdge;
+use graph::direct_edge;
 use outcome::Refusal;
 use outcome::Verdict;
 use points::count_points;
@@ -12,6 +13,7 @@ use table::limits::MAX_STEPS;
 ghost use mathlib.Core.Path.{_≡_};
 ghost use Prim.Native.Nat.{_≤_};
 ghost use lib.ListN.{length, take};
+ghost use Rattle.graph.specs.Directed.{directedBy};
 ghost use Rattle.table.specs.Limits.{maxEdges};
 ghost use Rattle.ordering.specs.Charting.{Split, RowsGiven, noChart, EdgesFound};
 
@@ -37,20 +39,22 @@ pub fn refuse_chart(f: Refusal) -> ChartFound
     }
 }
 
-// The chart of the first m edges of an array, between n steps in their best rows. The points are counted first, since only so many can be
-// drawn.
+// The chart of the first m edges of an array, each as its flag says, between n steps in their best rows. The points are counted first, since
+// only so many can be drawn.
 pub fn draw_edges(
-    edges: [Edge; MAX_EDGES],
+    edges: [TableEdge; MAX_EDGES],
+    turned: [bool; MAX_EDGES],
     m: usize,
     n: usize,
     rows: [usize; MAX_STEPS],
     total: usize,
 ) -> ChartFound
-    requires { ⌜ RowsGiven n (take m edges) rows total ⌝ }
+    requires { ⌜ RowsGiven n (take m (directedBy turned edges)) rows total ⌝ }
     requires { ⌜ (m ≤ maxEdges) × (length edges ≡ maxEdges) ⌝ }
-    ensures { λ r. ⌜ EdgesFound n (take m edges) (take n rows) r ⌝ }
+    requires { ⌜ length turned ≡ maxEdges ⌝ }
+    ensures { λ r. ⌜ EdgesFound n (take m (directedBy turned edges)) (take n rows) r ⌝ }
 {
-    let ends = split_ends(edges, m);
+    let ends = split_ends(edges, turned, m);
     let from = ends.from;
     let to = ends.to;
     let points = count_points(&rows[..n], &from[..m], &to[..m]);
@@ -72,17 +76,20 @@ pub fn draw_edges(
     }
 }
 
-// The ends of the first m edges.
-fn split_ends(edges: [Edge; MAX_EDGES], m: usize) -> EdgeEnds
+// The ends of the first m edges, each as its flag says.
+fn split_ends(edges: [TableEdge; MAX_EDGES], turned: [bool; MAX_EDGES], m: usize) -> EdgeEnds
     requires { ⌜ (m ≤ maxEdges) × (length edges ≡ maxEdges) ⌝ }
-    ensures { λ r. ⌜ Split m edges (r .from) (r .to) ⌝ }
+    requires { ⌜ length turned ≡ maxEdges ⌝ }
+    ensures { λ r. ⌜ Split m (directedBy turned edges) (r .from) (r .to) ⌝ }
 {
     let mut from = [0usize; MAX_EDGES];
     let mut to = [0usize; MAX_EDGES];
     for i in 0..m {
         let e = edges[i];
-        from[i] = e.from;
-        to[i] = e.to;
+        let own = e.edge;
+        let directed = direct_edge(own, turned[i]);
+        from[i] = directed.from;
+        to[i] = directed.to;
     }
     EdgeEnds { from: from, to: to }
 }

@@ -45,7 +45,7 @@ pub fn draw_chart(bytes: &[u8], rows: &mut [Row], order: &mut [u16]) -> ChartAns
     hand_out_chart(found, rows, order)
 }
 
-// The table that the bytes write down, with its chart: what a layer above builds on. Refuses as the rows call does, then too many points;
+// The table that the bytes write down, which of its edges are turned, and its chart: what a layer above builds on. Refuses as the rows call does, then too many points;
 // then the chart is blank.
 pub fn chart_table(bytes: &[u8]) -> TableChart
     ensures { λ r. ⌜ drawEnd r ≡ drawCall (now (bytes .entry)) ⌝ }
@@ -53,11 +53,13 @@ pub fn chart_table(bytes: &[u8]) -> TableChart
 {
     let placed = place_table(bytes);
     let table = placed.table;
+    let turned = placed.turned;
     let found = placed.found;
     let verdict = found.verdict;
     match verdict {
         Verdict::Refused(f) => TableChart {
             table: table,
+            turned: turned,
             found: refuse_chart(f),
         },
         Verdict::Accepted => {
@@ -65,7 +67,8 @@ pub fn chart_table(bytes: &[u8]) -> TableChart
             let rows = found.rows;
             TableChart {
                 table: table,
-                found: draw_edges(edges, table.m, table.n, rows, found.total),
+                turned: turned,
+                found: draw_edges(edges, turned, table.m, table.n, rows, found.total),
             }
         }
     }

@@ -1,6 +1,7 @@
 // What the orderer hands to a layer above.
 use outcome::Verdict;
 use points::limits::MAX_POINTS;
+use table::limits::MAX_EDGES;
 use table::limits::MAX_STEPS;
 use table::types::Table;
 
@@ -16,8 +17,9 @@ pub struct ChartFound {
     pub crossings: usize,
 }
 
-// A table with its chart.
+// A table, which of its edges are turned, and its chart.
 pub struct TableChart {
     pub table: Table,
+    pub turned: [bool; MAX_EDGES],
     pub found: ChartFound,
 }

@@ -1,4 +1,4 @@
--- The refusals of document 01 and their numbers, and the outcome of a call.
+-- The refusals of documents 01 and 02 and their numbers, and the outcome of a call.
 use mathlib.Core.Bool.{Bool, true, false}
 use mathlib.Core.List.{List, [], _∷_}
 use Prim.Native.Nat.{ℕ}
@@ -6,9 +6,9 @@ use lib.ListN.{getD}
 use Rattle.outcome.specs.declared.Refusal.{Refusal}
 use Rattle.outcome.specs.declared.Verdict.{Verdict}
 use Rattle.outcome.specs.declared.Verdict.the-variants.{Accepted, Refused}
-use Rattle.outcome.specs.declared.Refusal.the-variants.{Cut, Overlong, BadEdition, ManySteps, BadKind, OutOfRange, BadNameByte, ManyEdges, BadEnd, Spare, Loop, ManyPoints, ShortBuffer, NoStep}
+use Rattle.outcome.specs.declared.Refusal.the-variants.{Cut, Overlong, BadEdition, ManySteps, BadKind, OutOfRange, BadNameByte, ManyEdges, BadEnd, Spare, Loop, ManyPoints, ShortBuffer, NoStep, BadFirmness}
 
--- All that a refusal tells: the number that document 01 gives the reason, and for a loop the step too.
+-- All that a refusal tells: the number that document 01, or 02 from 15 on, gives the reason, and for a loop the step too.
 abbrev pub numbersOf : Refusal → List ℕ
 numbersOf Cut = 1 ∷ []
 numbersOf Overlong = 2 ∷ []
@@ -24,6 +24,7 @@ numbersOf (Loop s) = 11 ∷ s ∷ []
 numbersOf ManyPoints = 12 ∷ []
 numbersOf ShortBuffer = 13 ∷ []
 numbersOf NoStep = 14 ∷ []
+numbersOf BadFirmness = 15 ∷ []
 
 abbrev pub numberOf : Refusal → ℕ
 numberOf r = getD (numbersOf r) 0 0

@@ -22,6 +22,8 @@ pub enum Refusal {
     ManyPoints,
     ShortBuffer,
     NoStep,
+    // A firmness that is neither 0 nor 1.
+    BadFirmness,
 }
 
 pub enum Verdict {
@@ -29,7 +31,7 @@ pub enum Verdict {
     Refused(Refusal),
 }
 
-// The number that document 01 gives a refusal.
+// The number that the documents give a refusal.
 pub fn number_of(f: Refusal) -> usize
     ensures { λ r. ⌜ r ≡ numberOf f ⌝ }
 {
@@ -48,5 +50,6 @@ pub fn number_of(f: Refusal) -> usize
         Refusal::ManyPoints => 12,
         Refusal::ShortBuffer => 13,
         Refusal::NoStep => 14,
+        Refusal::BadFirmness => 15,
     }
 }

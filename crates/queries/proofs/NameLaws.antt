@@ -21,7 +21,7 @@ use Rattle.queries.specs.Calls.{Stretch, nameOf, nameFound, stretchNumbe
 use Rattle.outcome.proofs.ToldLaws.{alone, told-refused, Values, told-done}
 use Rattle.table.proofs.AnswerLaws.{Told}
 use Rattle.table.proofs.FairLaws.{read-fair}
-use Rattle.table.proofs.RangeLaws.{read-range}
+use Rattle.table.proofs.RangeLaws.{OfReader, read-range, reader-alone}
 
 -- ---- from a table that was read
 
@@ -106,20 +106,20 @@ part-bytes start len s = let e : start + len - start ≡ len = omega arith in ap
 
 -- ---- a name that is refused
 
--- by 1 to 10, as the table is, or by 14
-pub name-range : (s : List ℕ) (i : ℕ) {f : Refusal} → nameFound s i ≡ refused f → (numberOf f ≤ 10) ⊎ (numberOf f ≡ 14)
+-- as the table is, or by 14
+pub name-range : (s : List ℕ) (i : ℕ) {f : Refusal} → nameFound s i ≡ refused f → OfReader f ⊎ (numberOf f ≡ 14)
 unfolding nameFound
 name-range s i {f} e = go (read s) refl e
   where
-    test : (b : Bool) (x : Stretch) → demand b NoStep (done x) ≡ refused f → (numberOf f ≤ 10) ⊎ (numberOf f ≡ 14)
+    test : (b : Bool) (x : Stretch) → demand b NoStep (done x) ≡ refused f → OfReader f ⊎ (numberOf f ≡ 14)
     test true x e = let z : _≡_ {A = ℕ} 0 1 = cc in absurd (omega arith)
     test false x e = let k : NoStep ≡ f = cc in inr (subst (λ x. numberOf x ≡ 14) k refl)
 
     go : (o : Outcome Contents) → read s ≡ o
-        → thenDo o (λ t. demand (ltb i (length (t .steps))) NoStep (done (nameOf (getD (t .steps) i noStep)))) ≡ refused f → (numberOf f ≤ 10) ⊎ (numberOf f ≡ 14)
+        → thenDo o (λ t. demand (ltb i (length (t .steps))) NoStep (done (nameOf (getD (t .steps) i noStep)))) ≡ refused f → OfReader f ⊎ (numberOf f ≡ 14)
     go (done t) r e = test (ltb i (length (t .steps))) _ e
-    go (refused g) r e = let k : g ≡ f = cc in inl (subst (λ x. numberOf x ≤ 10) k (read-range s r))
+    go (refused g) r e = let k : g ≡ f = cc in inl (subst OfReader k (read-range s r))
 
 -- so that no step comes with it
 pub name-alone : (s : List ℕ) (i : ℕ) (f : Refusal) → nameFound s i ≡ refused f → stepOf f ≡ 0
-name-alone s i f e = ⊎-elim (λ l. alone f (λ k. omega arith)) (λ l. alone f (λ k. omega arith)) (name-range s i e)
+name-alone s i f e = ⊎-elim (λ l. reader-alone f l) (λ l. alone f (λ k. omega arith)) (name-range s i e)

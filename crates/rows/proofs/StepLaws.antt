@@ -37,13 +37,18 @@ first-below test a (suc k) {s} e = go (test a) (first-below test (suc a) k) e
     go true ih e = let h : a ≡ s = cc in omega arith
     go false ih e = omega (arith, ih e)
 
-pub found-step : (n : ℕ) (edges : List Edge) {f : Refusal} → n ≤ maxSteps → rowsFound n edges ≡ refused f → StepLow f
-unfolding rowsFound lowestOnLoop
-found-step n edges {f} h e = go (lowestOnLoop n edges) refl e
+-- whatever rows there would be without a loop
+pub loop-step : (n : ℕ) (edges : List Edge) (rows : List ℕ) {f : Refusal} → n ≤ maxSteps → unlessLoop (lowestOnLoop n edges) rows ≡ refused f → StepLow f
+unfolding lowestOnLoop
+loop-step n edges rows {f} h e = go (lowestOnLoop n edges) refl e
   where
-    go : (o : Option ℕ) → lowestOnLoop n edges ≡ o → unlessLoop o (rowsOf n edges) ≡ refused f → StepLow f
+    go : (o : Option ℕ) → lowestOnLoop n edges ≡ o → unlessLoop o rows ≡ refused f → StepLow f
     go none l e = never e
     go (some s) l e = subst StepLow (same e) (omega (arith, first-below (onLoop n edges) 0 n l))
+
+pub found-step : (n : ℕ) (edges : List Edge) {f : Refusal} → n ≤ maxSteps → rowsFound n edges ≡ refused f → StepLow f
+unfolding rowsFound
+found-step n edges h e = loop-step n edges (rowsOf n edges) h e
 
 pub demand-step : {A : Type 0} (b : Bool) (r : Refusal) (next : Outcome A) {f : Refusal} → StepLow r → (b ≡ true → next ≡ refused f → StepLow f)
     → demand b r next ≡ refused f → StepLow f

@@ -4,7 +4,7 @@ use mathlib.Core.List.{List}
 use Prim.Native.Nat.{ℕ, _≤_}
 use native.Mathlib.Omega.{arith}
 use lib.ListN.{length, take}
-use Rattle.graph.specs.Rows.{noEdge}
+use Rattle.graph.specs.Directed.{noTableEdge}
 use Rattle.table.specs.declared.types.Table.{Table}
 use Rattle.table.specs.Limits.{maxSteps, maxEdges}
 use Rattle.outcome.specs.Refusal.{done}
@@ -28,16 +28,16 @@ module _ (s : List ℕ) (table : Table) (same : table ≡ readCall s .table) (t 
   pub array-count : table .m ≡ length (t .edges)
   array-count = ap (λ (x : Table). x .m) whole
 
-  edge-list : table .edges ≡ padded maxEdges noEdge (t .edges)
+  edge-list : table .edges ≡ padded maxEdges noTableEdge (t .edges)
   edge-list = ap (λ (x : Table). x .edges) whole
 
   -- the edges in use are those of the table
   pub array-edges : take (table .m) (table .edges) ≡ t .edges
   array-edges =
-      ap (λ k. take k (table .edges)) array-count ∙ ap (take (length (t .edges))) edge-list ∙ padded-front maxEdges noEdge (t .edges)
+      ap (λ k. take k (table .edges)) array-count ∙ ap (take (length (t .edges))) edge-list ∙ padded-front maxEdges noTableEdge (t .edges)
 
   pub array-few : table .m ≤ maxEdges
   array-few = omega (arith, array-count, read-fair s said .few-edges)
 
   pub array-long : length (table .edges) ≡ maxEdges
-  array-long = ap length edge-list ∙ padded-long maxEdges noEdge (t .edges) (read-fair s said .few-edges)
+  array-long = ap length edge-list ∙ padded-long maxEdges noTableEdge (t .edges) (read-fair s said .few-edges)

@@ -8,15 +8,16 @@ use borrow.Author.Tests.{ltb-true, eqb-true, eqb-false}
 use lib.Dec.{leb, ltb, eqb}
 use lib.ListN.{length}
 use Rattle.graph.specs.declared.Edge.{Edge}
-use Rattle.graph.specs.Rows.{noEdge}
+use Rattle.graph.specs.declared.TableEdge.{TableEdge}
+use Rattle.graph.specs.Directed.{noTableEdge}
 use Rattle.table.specs.declared.types.Kind.{Kind}
 use Rattle.table.specs.declared.types.Kind.the-variants.{Check, Adjust, Wait}
-use Rattle.outcome.specs.declared.Refusal.the-variants.{BadEdition, ManySteps, BadKind, OutOfRange, BadNameByte, ManyEdges, BadEnd, Spare}
+use Rattle.outcome.specs.declared.Refusal.the-variants.{BadEdition, ManySteps, BadKind, OutOfRange, BadNameByte, ManyEdges, BadEnd, Spare, BadFirmness}
 use Rattle.table.specs.declared.types.Step.{Step}
-use Rattle.table.specs.Limits.{edition, maxSteps, maxEdges, maxKind, maxTolerance, minMinutes, maxMinutes, minName, maxName, minNameByte, maxNameByte, minGap, maxGap, maxWeight, maxTable}
+use Rattle.table.specs.Limits.{minEdition, maxEdition, maxSteps, maxEdges, maxKind, maxTolerance, minMinutes, maxMinutes, minName, maxName, minNameByte, maxNameByte, minGap, maxGap, maxWeight, softness, maxTable}
 use Rattle.outcome.specs.Refusal.{done}
 use Rattle.table.specs.Number.{Read, got, fault, andThen, judge, byteAt, numberAt, numberIn, many, counted}
-use Rattle.table.specs.Table.{adjustAt, waitAt, kindAt, nameByteAt, nameAt, namedAt, stepAt, endAt, edgeBetween, edgeAt, stepsAt, edgesAt, listsAt, tableAt, outcome, read, Contents}
+use Rattle.table.specs.Table.{adjustAt, waitAt, kindAt, nameByteAt, nameAt, namedAt, stepAt, endAt, edgeBetween, edgeAt, firmnessAt, tableEdgeAt, stepsAt, edgesAt, listsAt, tableAt, outcome, read, Contents}
 use Rattle.table.specs.Calls.{noStep}
 use Rattle.table.specs.Fair.{KindInRange, FairStep, FairEdge, Fair}
 use Rattle.table.proofs.NumberLaws.{in-limits}
@@ -133,7 +134,7 @@ end-fair s n but at {v} {p} e =
 edge-wide : (at a b g w p : ℕ) → a ≤ at + 3 → b ≤ a + 3 → g ≤ b + 3 → w ≤ g + 3 → w ≡ p → p ≤ at + 12
 edge-wide at a b g w p c d e f h = omega arith
 
--- an edge takes at most 12 bytes
+-- an edge without its firmness takes at most 12 bytes
 pub edge-fair : (s : List ℕ) (n at : ℕ) {x : Edge} {p : ℕ} → edgeAt s n at ≡ got x p → FairEdge n x × (p ≤ at + 12)
 unfolding edgeAt edgeBetween
 edge-fair s n at {x} {p} e =
@@ -153,29 +154,51 @@ edge-fair s n at {x} {p} e =
       edge-wide at (a .place) (b .place) (g .place) (w .place) p (from .2) (to .2) (q .1) (r .1) z,
     )
 
+-- a firmness takes at most 3
+pub firmness-place : (s : List ℕ) (edition at : ℕ) {v p : ℕ} → firmnessAt s edition at ≡ got v p → p ≤ at + 3
+unfolding firmnessAt
+firmness-place s edition at {v} {p} e = go (eqb edition minEdition) e
+  where
+    go : (t : Bool) → cond t (got 0 at) (numberIn 0 softness BadFirmness s at) ≡ got v p → p ≤ at + 3
+    go true e = omega (arith, got-place e)
+    go false e = limits-place 0 softness BadFirmness s at e .1
+
+table-edge-wide : (at a f p : ℕ) → a ≤ at + 12 → f ≤ a + 3 → f ≡ p → p ≤ at + 15
+table-edge-wide at a f p c d e = omega arith
+
+pub table-edge-fair : (s : List ℕ) (edition n at : ℕ) {x : TableEdge} {p : ℕ} → tableEdgeAt s edition n at ≡ got x p → FairEdge n (x .edge) × (p ≤ at + 15)
+unfolding tableEdgeAt
+table-edge-fair s edition n at {x} {p} e =
+    let a = came (edgeAt s n at) _ e in
+    let f = came (firmnessAt s edition (a .place)) _ (a .next) in
+    let own = edge-fair s n at (a .first) in (
+      subst (λ (y : TableEdge). FairEdge n (y .edge)) (got-value (f .next)) (own .0),
+      table-edge-wide at (a .place) (f .place) p (own .1) (firmness-place s edition (a .place) (f .first)) (got-place (f .next)),
+    )
+
 -- ---- the table
 
-table-wide : (a b n c d m e : ℕ) → a ≤ 3 → b ≤ a + 3 → n ≤ maxSteps → c ≤ b + n * 25 → d ≤ c + 3 → m ≤ maxEdges → e ≤ d + m * 12 → e ≤ maxTable
+table-wide : (a b n c d m e : ℕ) → a ≤ 3 → b ≤ a + 3 → n ≤ maxSteps → c ≤ b + n * 25 → d ≤ c + 3 → m ≤ maxEdges → e ≤ d + m * 15 → e ≤ maxTable
 table-wide a b n c d m e f g h i j k l = omega arith
 
--- three bytes for the edition, three for each count, at most 25 a step and 12 an edge
+-- three bytes for the edition, three for each count, at most 25 a step and 15 an edge
 table-fair : (s : List ℕ) {c : Contents} {p : ℕ} → tableAt s 0 ≡ got c p → Fair s c
 unfolding tableAt listsAt stepsAt edgesAt
 table-fair s {c} {p} e =
-    let ed = came (numberIn edition edition BadEdition s 0) _ e in
+    let ed = came (numberIn minEdition maxEdition BadEdition s 0) _ e in
     let st = came (stepsAt s (ed .place)) _ (ed .next) in
-    let es = came (edgesAt s (length (st .value)) (st .place)) _ (st .next) in
+    let es = came (edgesAt s (ed .value) (length (st .value)) (st .place)) _ (st .next) in
     let last = passed (eqb (es .place) (length s)) Spare _ (es .next) in
     let n = came (numberIn 0 maxSteps ManySteps s (ed .place)) _ (st .first) in
     let m = came (numberIn 0 maxEdges ManyEdges s (st .place)) _ (es .first) in
     let nl = many-length (stepAt s) (n .value) (n .place) (n .next) in
-    let ml = many-length (edgeAt s (length (st .value))) (m .value) (m .place) (m .next) in
+    let ml = many-length (tableEdgeAt s (ed .value) (length (st .value))) (m .value) (m .place) (m .next) in
     let few = in-limits 0 maxSteps ManySteps s (ed .place) (n .first) .1 in
     let fewer = in-limits 0 maxEdges ManyEdges s (st .place) (m .first) .1 in
     let wide = many-width (stepAt s) 25 (λ at a q h. step-fair s at h .1) (n .value) (n .place) (n .next) in
-    let wider = many-width (edgeAt s (length (st .value))) 12 (λ at a q h. edge-fair s (length (st .value)) at h .1) (m .value) (m .place) (m .next) in
+    let wider = many-width (tableEdgeAt s (ed .value) (length (st .value))) 15 (λ at a q h. table-edge-fair s (ed .value) (length (st .value)) at h .1) (m .value) (m .place) (m .next) in
     let end = eqb-true (es .place) (length s) (last .0) in
-    let a = limits-place edition edition BadEdition s 0 (ed .first) in
+    let a = limits-place minEdition maxEdition BadEdition s 0 (ed .first) in
     let b = limits-place 0 maxSteps ManySteps s (ed .place) (n .first) in
     let d = limits-place 0 maxEdges ManyEdges s (st .place) (m .first) in
     subst (Fair s) (got-value (last .1))
@@ -183,7 +206,7 @@ table-fair s {c} {p} e =
       few-steps = subst (λ x. x ≤ maxSteps) (sym nl) few;
       few-edges = subst (λ x. x ≤ maxEdges) (sym ml) fewer;
       each-step = many-each (stepAt s) (FairStep s) noStep (λ at a q h. step-fair s at h .0) (n .value) (n .place) (n .next);
-      each-edge = many-each (edgeAt s (length (st .value))) (FairEdge (length (st .value))) noEdge (λ at a q h. edge-fair s (length (st .value)) at h .0) (m .value) (m .place) (m .next);
+      each-edge = many-each (tableEdgeAt s (ed .value) (length (st .value))) (λ (x : TableEdge). FairEdge (length (st .value)) (x .edge)) noTableEdge (λ at a q h. table-edge-fair s (ed .value) (length (st .value)) at h .0) (m .value) (m .place) (m .next);
       short = subst (λ x. x ≤ maxTable) end
           (table-wide (ed .place) (n .place) (n .value) (st .place) (m .place) (m .value) (es .place) (a .1) (b .1) few wide (d .1) fewer wider);
     })

@@ -9,22 +9,22 @@ use borrow.Author.Tests.{leb-true, leb-false, lt-ltb, ne-eqb}
 use lib.Dec.{leb, ltb}
 use lib.ListN.{length, take}
 use lib.Seq.{take-all, length-take-le, getD-take}
-use Rattle.graph.specs.declared.Edge.{Edge}
+use Rattle.graph.specs.declared.TableEdge.{TableEdge}
 use Rattle.table.specs.declared.types.Kind.{Kind}
 use Rattle.table.specs.declared.types.Step.{Step}
 use Rattle.outcome.specs.declared.Refusal.{Refusal}
-use Rattle.outcome.specs.declared.Refusal.the-variants.{BadEdition, ManySteps, BadKind, OutOfRange, BadNameByte, ManyEdges}
-use Rattle.table.specs.Limits.{edition, maxSteps, maxEdges, maxKind, maxTolerance, minMinutes, maxMinutes, minName, maxName, minNameByte, maxNameByte, minGap, maxGap, maxWeight, numberBytes, stepBytes, edgeBytes, maxTable}
+use Rattle.outcome.specs.declared.Refusal.the-variants.{BadEdition, ManySteps, BadKind, OutOfRange, BadNameByte, ManyEdges, BadFirmness}
+use Rattle.table.specs.Limits.{minEdition, maxEdition, maxSteps, maxEdges, maxKind, maxTolerance, minMinutes, maxMinutes, minName, maxName, minNameByte, maxNameByte, minGap, maxGap, maxWeight, softness, numberBytes, stepBytes, edgeBytes, maxTable}
 use Rattle.outcome.specs.Refusal.{done}
 use Rattle.table.specs.Number.{Read, got, fault, andThen, byteAt, numberAt, numberIn, many, counted}
-use Rattle.table.specs.Table.{Contents, adjustAt, waitAt, kindAt, nameByteAt, nameAt, namedAt, stepAt, endAt, edgeBetween, edgeAt, stepsAt, edgesAt, listsAt, tableAt, outcome, read}
+use Rattle.table.specs.Table.{Contents, adjustAt, waitAt, kindAt, nameByteAt, nameAt, namedAt, stepAt, endAt, edgeBetween, edgeAt, firmnessAt, tableEdgeAt, stepsAt, edgesAt, listsAt, tableAt, outcome, read}
 use Rattle.table.proofs.NumberLaws.{in-limits}
 use Rattle.table.proofs.InverseLaws.{came, passed, got-place, many-width}
 use Rattle.table.proofs.PlaceLaws.{byte-place, limits-place}
-use Rattle.table.proofs.FairLaws.{kind-place, step-fair, end-fair, edge-fair, read-fair}
+use Rattle.table.proofs.FairLaws.{kind-place, step-fair, end-fair, edge-fair, firmness-place, table-edge-fair, read-fair}
 
 -- what the widths of the fields add up to
-pub table-bytes : maxTable ≡ 3913
+pub table-bytes : maxTable ≡ 4489
 table-bytes = refl
 
 -- no accepted table is longer
@@ -106,7 +106,7 @@ module _ (s t : List ℕ) (same : (i : ℕ) → i < maxTable → byteAt s i ≡ 
       let l : p + numberBytes ≤ maxTable = omega (arith, limits-place minGap maxGap OutOfRange s at e) in
       rw (limits-same 0 maxWeight OutOfRange p l)
 
-  edge-same : (n at : ℕ) → at + edgeBytes ≤ maxTable → edgeAt s n at ≡ edgeAt t n at
+  edge-same : (n at : ℕ) → at + 4 * numberBytes ≤ maxTable → edgeAt s n at ≡ edgeAt t n at
   unfolding edgeAt
   edge-same n at h =
       same-then (endAt s n n at) _ _ (end-same n n at (omega arith)) λ from p e.
@@ -114,6 +114,17 @@ module _ (s t : List ℕ) (same : (i : ℕ) → i < maxTable → byteAt s i ≡ 
       same-then (endAt s n from p) _ _ (end-same n from p (omega arith)) λ to q f.
       let b = end-fair s n from p f .2 in
       between-same from to q (omega arith)
+
+  firmness-same : (edition at : ℕ) → at + numberBytes ≤ maxTable → firmnessAt s edition at ≡ firmnessAt t edition at
+  unfolding firmnessAt
+  firmness-same edition at h = rw (limits-same 0 softness BadFirmness at h)
+
+  table-edge-same : (edition n at : ℕ) → at + edgeBytes ≤ maxTable → tableEdgeAt s edition n at ≡ tableEdgeAt t edition n at
+  unfolding tableEdgeAt
+  table-edge-same edition n at h =
+      same-then (edgeAt s n at) _ _ (edge-same n at (omega arith)) λ e p f.
+      let a = edge-fair s n at f .1 in
+      rw (firmness-same edition p (omega arith))
 
   -- ---- the lists, with where they end
 
@@ -124,11 +135,11 @@ module _ (s t : List ℕ) (same : (i : ℕ) → i < maxTable → byteAt s i ≡ 
       many-same (stepAt s) (stepAt t) stepBytes step-same (λ i a q f. step-fair s i f .1) n p
       (omega (arith, limits-place 0 maxSteps ManySteps s at e, in-limits 0 maxSteps ManySteps s at e))
 
-  edges-same : (n at : ℕ) → at + numberBytes + maxEdges * edgeBytes ≤ maxTable → edgesAt s n at ≡ edgesAt t n at
+  edges-same : (edition n at : ℕ) → at + numberBytes + maxEdges * edgeBytes ≤ maxTable → edgesAt s edition n at ≡ edgesAt t edition n at
   unfolding edgesAt
-  edges-same n at h =
+  edges-same edition n at h =
       same-then (numberIn 0 maxEdges ManyEdges s at) _ _ (limits-same 0 maxEdges ManyEdges at (omega arith)) λ m p e.
-      many-same (edgeAt s n) (edgeAt t n) edgeBytes (edge-same n) (λ i a q f. edge-fair s n i f .1) m p
+      many-same (tableEdgeAt s edition n) (tableEdgeAt t edition n) edgeBytes (table-edge-same edition n) (λ i a q f. table-edge-fair s edition n i f .1) m p
       (omega (arith, limits-place 0 maxEdges ManyEdges s at e, in-limits 0 maxEdges ManyEdges s at e))
 
   steps-place : (at : ℕ) {l : List Step} {p : ℕ} → stepsAt s at ≡ got l p → p ≤ at + numberBytes + maxSteps * stepBytes
@@ -138,30 +149,30 @@ module _ (s t : List ℕ) (same : (i : ℕ) → i < maxTable → byteAt s i ≡ 
       let wide = many-width (stepAt s) stepBytes (λ i a q f. step-fair s i f .1) (n .value) (n .place) (n .next) in
       omega (arith, limits-place 0 maxSteps ManySteps s at (n .first), in-limits 0 maxSteps ManySteps s at (n .first))
 
-  edges-place : (n at : ℕ) {l : List Edge} {p : ℕ} → edgesAt s n at ≡ got l p → p ≤ at + numberBytes + maxEdges * edgeBytes
+  edges-place : (edition n at : ℕ) {l : List TableEdge} {p : ℕ} → edgesAt s edition n at ≡ got l p → p ≤ at + numberBytes + maxEdges * edgeBytes
   unfolding edgesAt
-  edges-place n at e =
+  edges-place edition n at e =
       let m = came (numberIn 0 maxEdges ManyEdges s at) _ e in
-      let wide = many-width (edgeAt s n) edgeBytes (λ i a q f. edge-fair s n i f .1) (m .value) (m .place) (m .next) in
+      let wide = many-width (tableEdgeAt s edition n) edgeBytes (λ i a q f. table-edge-fair s edition n i f .1) (m .value) (m .place) (m .next) in
       omega (arith, limits-place 0 maxEdges ManyEdges s at (m .first), in-limits 0 maxEdges ManyEdges s at (m .first))
 
   -- ---- the table: both inputs go on behind the last edge, so both have bytes to spare
 
   module _ (more-s : maxTable < length s) (more-t : maxTable < length t) where
-    lists-same : (at : ℕ) → at ≤ numberBytes → listsAt s at ≡ listsAt t at
+    lists-same : (edition at : ℕ) → at ≤ numberBytes → listsAt s edition at ≡ listsAt t edition at
     unfolding listsAt
-    lists-same at h =
+    lists-same edition at h =
         same-then (stepsAt s at) _ _ (steps-same at (omega arith)) λ steps p e.
         let a = steps-place at e in
-        same-then (edgesAt s (length steps) p) _ _ (edges-same (length steps) p (omega arith)) λ edges q f.
-        let b = edges-place (length steps) p f in
+        same-then (edgesAt s edition (length steps) p) _ _ (edges-same edition (length steps) p (omega arith)) λ edges q f.
+        let b = edges-place edition (length steps) p f in
         rw (ne-eqb q (length s) (λ z. omega arith), ne-eqb q (length t) (λ z. omega arith))
 
     table-same : tableAt s 0 ≡ tableAt t 0
     unfolding tableAt
     table-same =
-        same-then (numberIn edition edition BadEdition s 0) _ _ (limits-same edition edition BadEdition 0 (omega arith)) λ v p e.
-        lists-same p (omega (arith, limits-place edition edition BadEdition s 0 e))
+        same-then (numberIn minEdition maxEdition BadEdition s 0) _ _ (limits-same minEdition maxEdition BadEdition 0 (omega arith)) λ v p e.
+        lists-same v p (omega (arith, limits-place minEdition maxEdition BadEdition s 0 e))
 
 -- A reader that takes only the first k bytes, for any k above the length of the longest table, gets the outcome of the whole,
 -- refusals included. An input of at most k bytes is taken whole. Of a longer one both readings see the same bytes where a table

@@ -6,8 +6,8 @@ use native.Mathlib.Omega.{arith}
 use borrow.Author.Tests.{eq-eqb, ne-eqb}
 use lib.ListN.{length, take, take-append-drop}
 use lib.Seq.{length-take-le}
-use Rattle.graph.specs.declared.Edge.{Edge}
-use Rattle.graph.specs.Rows.{noEdge}
+use Rattle.graph.specs.declared.TableEdge.{TableEdge}
+use Rattle.graph.specs.Directed.{noTableEdge}
 use Rattle.outcome.specs.declared.Refusal.{Refusal}
 use Rattle.outcome.specs.declared.Refusal.the-variants.{Spare}
 use Rattle.table.specs.declared.types.Step.{Step}
@@ -39,27 +39,27 @@ module _ {A : Type 0} {k : ℕ} {blank : A} {what : Read (List A)} {verdict : Ve
   unfolding padded
   read-padded = rw (read-count, ← r .rest) (take-append-drop n list)
 
-module _ (s : List ℕ) (at : ℕ) where
-  pub lists-stop : {f : Refusal} → stepsAt s at ≡ fault f → listsAt s at ≡ fault f
+module _ (s : List ℕ) (edition at : ℕ) where
+  pub lists-stop : {f : Refusal} → stepsAt s at ≡ fault f → listsAt s edition at ≡ fault f
   unfolding listsAt
   lists-stop e = rw e
 
   module _ {steps : List Step} {p : ℕ} (n : ℕ) (e : stepsAt s at ≡ got steps p) (l : length steps ≡ n) where
-    pub lists-cut : {f : Refusal} → edgesAt s n p ≡ fault f → listsAt s at ≡ fault f
+    pub lists-cut : {f : Refusal} → edgesAt s edition n p ≡ fault f → listsAt s edition at ≡ fault f
     unfolding listsAt
     lists-cut g = rw (e, l, g)
 
-    module _ {edges : List Edge} {q : ℕ} (g : edgesAt s n p ≡ got edges q) where
-      pub lists-spare : (q ≡ length s → ⊥) → listsAt s at ≡ fault Spare
+    module _ {edges : List TableEdge} {q : ℕ} (g : edgesAt s edition n p ≡ got edges q) where
+      pub lists-spare : (q ≡ length s → ⊥) → listsAt s edition at ≡ fault Spare
       unfolding listsAt
       lists-spare h = rw (e, l, g, ne-eqb q (length s) h)
 
-      pub lists-whole : q ≡ length s → listsAt s at ≡ got (record { steps = steps; edges = edges }) q
+      pub lists-whole : q ≡ length s → listsAt s edition at ≡ got (record { steps = steps; edges = edges }) q
       unfolding listsAt
       lists-whole h = rw (e, l, g, eq-eqb q (length s) h)
 
 -- two lists that were read make the table of what they hold
-pub table-whole : {x : Read (List Step)} {v : Verdict} {n : ℕ} {steps : List Step} {p : ℕ} {y : Read (List Edge)} {w : Verdict} {m : ℕ} {edges : List Edge} {q : ℕ}
-    → ListRead maxSteps noStep x v n steps p → ListRead maxEdges noEdge y w m edges q
+pub table-whole : {x : Read (List Step)} {v : Verdict} {n : ℕ} {steps : List Step} {p : ℕ} {y : Read (List TableEdge)} {w : Verdict} {m : ℕ} {edges : List TableEdge} {q : ℕ}
+    → ListRead maxSteps noStep x v n steps p → ListRead maxEdges noTableEdge y w m edges q
     → tableOf (take n steps) (take m edges) ≡ record { n = n; steps = steps; m = m; edges = edges }
 table-whole r t = rw (read-count r, read-padded r, read-count t, read-padded t)

@@ -2,8 +2,8 @@
 use mathlib.Core.List.{List, []}
 use Prim.Native.Nat.{ℕ}
 use lib.ListN.{length}
-use Rattle.graph.specs.declared.Edge.{Edge}
-use Rattle.graph.specs.Rows.{noEdge}
+use Rattle.graph.specs.declared.TableEdge.{TableEdge}
+use Rattle.graph.specs.Directed.{noTableEdge}
 use Rattle.buffers.specs.Padded.{padded}
 use Rattle.table.specs.declared.types.Kind.the-variants.{Check}
 use Rattle.table.specs.declared.types.Step.{Step}
@@ -18,13 +18,13 @@ use Rattle.table.specs.Table.{Contents, read, contentsOf}
 abbrev pub noStep : Step
 noStep = record { kind = Check; start = 0; len = 0 }
 
-abbrev pub tableOf : List Step → List Edge → Table
+abbrev pub tableOf : List Step → List TableEdge → Table
 tableOf steps edges =
     record {
       n = length steps;
       steps = padded maxSteps noStep steps;
       m = length edges;
-      edges = padded maxEdges noEdge edges;
+      edges = padded maxEdges noTableEdge edges;
     }
 
 -- the same as the code's answer: refused, the table is blank

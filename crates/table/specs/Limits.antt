@@ -1,9 +1,12 @@
--- The limits of document 01, each named once for the definitions; `src/limits.rt` names the same numbers for the code.
+-- The limits of documents 01 and 02, each named once for the definitions; `src/limits.rt` names the same numbers for the code.
 use Prim.Native.Nat.{ℕ, _+_, _*_}
 
--- the edition that a table says it has
-abbrev pub edition : ℕ
-edition = 1
+-- the editions that a table may have: the first has must edges only, the last (document 02) a firmness for each edge
+abbrev pub minEdition : ℕ
+minEdition = 1
+
+abbrev pub maxEdition : ℕ
+maxEdition = 2
 
 abbrev pub maxSteps : ℕ
 maxSteps = 64
@@ -49,6 +52,10 @@ maxGap = 4
 abbrev pub maxWeight : ℕ
 maxWeight = 255
 
+-- the firmness of a soft edge; that of a must edge is 0, and there is no other
+abbrev pub softness : ℕ
+softness = 1
+
 -- bytes in a number, at most
 abbrev pub numberBytes : ℕ
 numberBytes = 3
@@ -57,9 +64,9 @@ numberBytes = 3
 abbrev pub stepBytes : ℕ
 stepBytes = 3 * numberBytes + maxName
 
--- bytes in an edge, at most: its ends, its gap and its weight
+-- bytes in an edge, at most: its ends, its gap, its weight and its firmness
 abbrev pub edgeBytes : ℕ
-edgeBytes = 4 * numberBytes
+edgeBytes = 5 * numberBytes
 
 -- no accepted table is longer: the edition, the count of steps and the steps, the count of edges and the edges
 abbrev pub maxTable : ℕ

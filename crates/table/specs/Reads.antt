@@ -4,6 +4,7 @@ use mathlib.Core.List.{List}
 use Prim.Native.Nat.{ℕ, _-_, _≤_}
 use lib.ListN.{length, take, drop, replicate}
 use Rattle.graph.specs.declared.Edge.{Edge}
+use Rattle.graph.specs.declared.TableEdge.{TableEdge}
 use Rattle.outcome.specs.declared.Verdict.{Verdict}
 use Rattle.outcome.specs.declared.Verdict.the-variants.{Accepted, Refused}
 use Rattle.table.specs.declared.types.Kind.{Kind}
@@ -11,6 +12,7 @@ use Rattle.table.specs.declared.types.Step.{Step}
 use Rattle.table.specs.declared.step.KindRead.{KindRead}
 use Rattle.table.specs.declared.step.StepRead.{StepRead}
 use Rattle.table.specs.declared.edge.EdgeRead.{EdgeRead}
+use Rattle.table.specs.declared.edge.TableEdgeRead.{TableEdgeRead}
 use Rattle.table.specs.Number.{Read, got, fault}
 
 abbrev pub kindRead : KindRead → Read Kind
@@ -24,6 +26,10 @@ stepRead (StepRead.Fault r) = fault r
 abbrev pub edgeRead : EdgeRead → Read Edge
 edgeRead (EdgeRead.Got e p) = got e p
 edgeRead (EdgeRead.Fault r) = fault r
+
+abbrev pub tableEdgeRead : TableEdgeRead → Read TableEdge
+tableEdgeRead (TableEdgeRead.Got e p) = got e p
+tableEdgeRead (TableEdgeRead.Fault r) = fault r
 
 -- a value and the place behind it, or the fault, by a verdict
 abbrev pub judged : {A : Type 0} → Verdict → A → ℕ → Read A

@@ -1,15 +1,17 @@
--- The table of document 01: an edition, the steps behind their count, the edges behind theirs, and no byte more.
+-- The table of document 01, with the firmness of document 02: an edition, the steps behind their count, the edges behind theirs, and no
+-- byte more.
 use mathlib.Core.Bool.{not, _&&_, cond}
 use mathlib.Core.List.{List, []}
 use Prim.Native.Nat.{ℕ}
 use lib.Dec.{leb, ltb, eqb}
 use lib.ListN.{length}
 use Rattle.graph.specs.declared.Edge.{Edge}
+use Rattle.graph.specs.declared.TableEdge.{TableEdge}
 use Rattle.table.specs.declared.types.Kind.{Kind}
 use Rattle.table.specs.declared.types.Kind.the-variants.{Check, Adjust, Wait}
 use Rattle.table.specs.declared.types.Step.{Step}
-use Rattle.outcome.specs.declared.Refusal.the-variants.{BadEdition, ManySteps, BadKind, OutOfRange, BadNameByte, ManyEdges, BadEnd, Spare}
-use Rattle.table.specs.Limits.{edition, maxSteps, maxEdges, maxKind, maxTolerance, minMinutes, maxMinutes, minName, maxName, minNameByte, maxNameByte, minGap, maxGap, maxWeight}
+use Rattle.outcome.specs.declared.Refusal.the-variants.{BadEdition, ManySteps, BadKind, OutOfRange, BadNameByte, ManyEdges, BadEnd, Spare, BadFirmness}
+use Rattle.table.specs.Limits.{minEdition, maxEdition, maxSteps, maxEdges, maxKind, maxTolerance, minMinutes, maxMinutes, minName, maxName, minNameByte, maxNameByte, minGap, maxGap, maxWeight, softness}
 use Rattle.outcome.specs.Refusal.{Outcome, done, refused}
 use Rattle.table.specs.Number.{Read, got, fault, andThen, judge, byteAt, numberAt, numberIn, many, counted}
 
@@ -57,28 +59,38 @@ edgeBetween s from to at =
 unfoldable pub edgeAt : List ℕ → ℕ → ℕ → Read Edge
 edgeAt s n at = andThen (endAt s n n at) λ from p. andThen (endAt s n from p) λ to q. edgeBetween s from to q
 
+-- the firmness of an edge: the first edition has none, and there every edge is a must edge
+unfoldable pub firmnessAt : List ℕ → ℕ → ℕ → Read ℕ
+firmnessAt s edition at = cond (eqb edition minEdition) (got 0 at) (numberIn 0 softness BadFirmness s at)
+
+-- an edge with its firmness, which comes last
+unfoldable pub tableEdgeAt : List ℕ → ℕ → ℕ → ℕ → Read TableEdge
+tableEdgeAt s edition n at =
+    andThen (edgeAt s n at) λ e p.
+    andThen (firmnessAt s edition p) λ firmness q. got (record { edge = e; soft = eqb firmness softness }) q
+
 -- the count of steps, then the steps
 unfoldable pub stepsAt : List ℕ → ℕ → Read (List Step)
 stepsAt s at = andThen (numberIn 0 maxSteps ManySteps s at) λ n p. many (stepAt s) n p
 
 -- the count of edges, then the edges
-unfoldable pub edgesAt : List ℕ → ℕ → ℕ → Read (List Edge)
-edgesAt s n at = andThen (numberIn 0 maxEdges ManyEdges s at) λ m p. many (edgeAt s n) m p
+unfoldable pub edgesAt : List ℕ → ℕ → ℕ → ℕ → Read (List TableEdge)
+edgesAt s edition n at = andThen (numberIn 0 maxEdges ManyEdges s at) λ m p. many (tableEdgeAt s edition n) m p
 
 -- what a table says
 pub record Contents : Type 0 where
   pub steps : List Step
-  pub edges : List Edge
+  pub edges : List TableEdge
 
 -- steps and edges, and nothing behind them
-unfoldable pub listsAt : List ℕ → ℕ → Read Contents
-listsAt s at =
+unfoldable pub listsAt : List ℕ → ℕ → ℕ → Read Contents
+listsAt s edition at =
     andThen (stepsAt s at) λ steps p.
-    andThen (edgesAt s (length steps) p) λ edges e.
+    andThen (edgesAt s edition (length steps) p) λ edges e.
     judge (eqb e (length s)) Spare (got (record { steps = steps; edges = edges }) e)
 
 unfoldable pub tableAt : List ℕ → ℕ → Read Contents
-tableAt s at = andThen (numberIn edition edition BadEdition s at) λ _ p. listsAt s p
+tableAt s at = andThen (numberIn minEdition maxEdition BadEdition s at) λ edition p. listsAt s edition p
 
 abbrev pub outcome : {A : Type 0} → Read A → Outcome A
 outcome (got a p) = done a

@@ -1,19 +1,27 @@
-// Edges: two different steps, a gap and a weight.
+// Edges: two different steps, a gap, a weight and a firmness.
 use crate::limits::MAX_GAP;
 use crate::limits::MAX_WEIGHT;
+use crate::limits::MIN_EDITION;
 use crate::limits::MIN_GAP;
+use crate::limits::SOFT;
 use crate::number::NumberRead;
 use crate::number::number_at;
 use crate::number::number_in;
 use graph::Edge;
+use graph::TableEdge;
 use outcome::Refusal;
 ghost use mathlib.Core.Path.{_≡_};
 ghost use Rattle.table.specs.Number.{numberRead};
-ghost use Rattle.table.specs.Table.{endAt, edgeBetween, edgeAt};
-ghost use Rattle.table.specs.Reads.{edgeRead};
+ghost use Rattle.table.specs.Table.{endAt, edgeBetween, edgeAt, firmnessAt, tableEdgeAt};
+ghost use Rattle.table.specs.Reads.{edgeRead, tableEdgeRead};
 
 pub enum EdgeRead {
     Got(Edge, usize),
+    Fault(Refusal),
+}
+
+pub enum TableEdgeRead {
+    Got(TableEdge, usize),
     Fault(Refusal),
 }
 
@@ -56,8 +64,8 @@ fn edge_between(s: &[u8], from: usize, to: usize, at: usize) -> EdgeRead
     }
 }
 
-// An edge of a table of n steps.
-pub fn edge_at(s: &[u8], n: usize, at: usize) -> EdgeRead
+// An edge of a table of n steps, without its firmness.
+fn edge_at(s: &[u8], n: usize, at: usize) -> EdgeRead
     ensures { λ r. ⌜ edgeRead r ≡ edgeAt (now (s .entry)) n at ⌝ }
 {
     match end_at(s, n, n, at) {
@@ -65,6 +73,35 @@ pub fn edge_at(s: &[u8], n: usize, at: usize) -> EdgeRead
         NumberRead::Got(from, p) => match end_at(s, n, from, p) {
             NumberRead::Fault(f) => EdgeRead::Fault(f),
             NumberRead::Got(to, q) => edge_between(s, from, to, q),
+        },
+    }
+}
+
+// The firmness of an edge, which the first edition has not: its edges are must edges.
+fn firmness_at(s: &[u8], edition: usize, at: usize) -> NumberRead
+    ensures { λ r. ⌜ numberRead r ≡ firmnessAt (now (s .entry)) edition at ⌝ }
+{
+    if edition == MIN_EDITION {
+        return NumberRead::Got(0, at);
+    }
+    number_in(s, at, 0, SOFT, Refusal::BadFirmness)
+}
+
+// An edge of a table of n steps, with its firmness.
+pub fn table_edge_at(s: &[u8], edition: usize, n: usize, at: usize) -> TableEdgeRead
+    ensures { λ r. ⌜ tableEdgeRead r ≡ tableEdgeAt (now (s .entry)) edition n at ⌝ }
+{
+    match edge_at(s, n, at) {
+        EdgeRead::Fault(f) => TableEdgeRead::Fault(f),
+        EdgeRead::Got(edge, p) => match firmness_at(s, edition, p) {
+            NumberRead::Fault(f) => TableEdgeRead::Fault(f),
+            NumberRead::Got(firmness, q) => TableEdgeRead::Got(
+                TableEdge {
+                    edge: edge,
+                    soft: firmness == SOFT,
+                },
+                q,
+            ),
         },
     }
 }

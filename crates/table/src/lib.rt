@@ -10,7 +10,8 @@ mod step;
 pub mod types;
 mod whole;
 
-use crate::limits::EDITION;
+use crate::limits::MAX_EDITION;
+use crate::limits::MIN_EDITION;
 use crate::number::NumberRead;
 use crate::number::number_in;
 use crate::types::TableRead;
@@ -24,8 +25,8 @@ ghost use Rattle.table.specs.Calls.{readEnd, readCall};
 pub fn read_table(bytes: &[u8]) -> TableRead
     ensures { λ r. ⌜ readEnd r ≡ readCall (now (bytes .entry)) ⌝ }
 {
-    match number_in(bytes, 0, EDITION, EDITION, Refusal::BadEdition) {
+    match number_in(bytes, 0, MIN_EDITION, MAX_EDITION, Refusal::BadEdition) {
         NumberRead::Fault(f) => refuse_table(f),
-        NumberRead::Got(_, at) => read_lists(bytes, at),
+        NumberRead::Got(edition, at) => read_lists(bytes, edition, at),
     }
 }

@@ -1,6 +1,9 @@
 // The limits of a table, each named once for the code; `specs/Limits.antt` names the same numbers for the definitions, and no
 // function is proved where the two differ.
-pub const EDITION: usize = 1;
+// The editions: the first has must edges only, the last a firmness for each edge.
+pub const MIN_EDITION: usize = 1;
+
+pub const MAX_EDITION: usize = 2;
 
 pub const MAX_STEPS: usize = 64;
 
@@ -27,3 +30,6 @@ pub const MIN_GAP: usize = 1;
 pub const MAX_GAP: usize = 4;
 
 pub const MAX_WEIGHT: usize = 255;
+
+// The firmness of an edge: 0 for must, 1 for soft.
+pub const SOFT: usize = 1;

@@ -1,6 +1,6 @@
 // The steps and the edges of a table, each list behind its count.
-use crate::edge::EdgeRead;
-use crate::edge::edge_at;
+use crate::edge::TableEdgeRead;
+use crate::edge::table_edge_at;
 use crate::limits::MAX_EDGES;
 use crate::limits::MAX_STEPS;
 use crate::number::NumberRead;
@@ -10,21 +10,22 @@ use crate::step::step_at;
 use crate::types::Kind;
 use crate::types::Step;
 use graph::Edge;
+use graph::TableEdge;
 use outcome::Refusal;
 use outcome::Verdict;
 ghost use mathlib.Core.Path.{_≡_};
 ghost use Prim.Native.Nat.{_≤_};
 ghost use lib.ListN.{replicate};
-ghost use Rattle.graph.specs.Rows.{noEdge};
+ghost use Rattle.graph.specs.Directed.{noTableEdge};
 ghost use Rattle.table.specs.Limits.{maxSteps, maxEdges};
 ghost use Rattle.table.specs.Number.{fault, many};
-ghost use Rattle.table.specs.Table.{stepAt, stepsAt, edgeAt, edgesAt};
+ghost use Rattle.table.specs.Table.{stepAt, stepsAt, tableEdgeAt, edgesAt};
 ghost use Rattle.table.specs.Calls.{noStep};
 ghost use Rattle.table.specs.Reads.{ListRead};
 
 pub type StepArray = [Step; MAX_STEPS];
 
-pub type EdgeArray = [Edge; MAX_EDGES];
+pub type EdgeArray = [TableEdge; MAX_EDGES];
 
 // The first n entries of the list and the place behind them, or the first fault, and then n is 0. The other entries are blank.
 pub struct Steps {
@@ -54,13 +55,16 @@ pub fn blank_steps() -> StepArray
 
 // An array of no edges.
 pub fn blank_edges() -> EdgeArray
-    ensures { λ r. ⌜ r ≡ replicate maxEdges noEdge ⌝ }
+    ensures { λ r. ⌜ r ≡ replicate maxEdges noTableEdge ⌝ }
 {
-    [Edge {
-        from: 0,
-        to: 0,
-        gap: 0,
-        weight: 0,
+    [TableEdge {
+        edge: Edge {
+            from: 0,
+            to: 0,
+            gap: 0,
+            weight: 0,
+        },
+        soft: false,
     }; MAX_EDGES]
 }
 
@@ -76,7 +80,7 @@ fn no_steps(f: Refusal) -> Steps
 }
 
 fn no_edges(f: Refusal) -> Edges
-    ensures { λ r. ⌜ ListRead maxEdges noEdge (fault f) (r .verdict) (r .m) (r .list) (r .next) ⌝ }
+    ensures { λ r. ⌜ ListRead maxEdges noTableEdge (fault f) (r .verdict) (r .m) (r .list) (r .next) ⌝ }
 {
     Edges {
         verdict: Verdict::Refused(f),
@@ -111,16 +115,16 @@ fn many_steps(s: &[u8], at: usize, n: usize) -> Steps
 }
 
 // m edges of a table of n steps, one behind the other.
-fn many_edges(s: &[u8], n: usize, at: usize, m: usize) -> Edges
+fn many_edges(s: &[u8], edition: usize, n: usize, at: usize, m: usize) -> Edges
     requires { ⌜ m ≤ maxEdges ⌝ }
-    ensures { λ r. ⌜ ListRead maxEdges noEdge (many (edgeAt (now (s .entry)) n) m at) (r .verdict) (r .m) (r .list) (r .next) ⌝ }
+    ensures { λ r. ⌜ ListRead maxEdges noTableEdge (many (tableEdgeAt (now (s .entry)) edition n) m at) (r .verdict) (r .m) (r .list) (r .next) ⌝ }
 {
     let mut list = blank_edges();
     let mut p = at;
     for i in 0..m {
-        match edge_at(s, n, p) {
-            EdgeRead::Fault(f) => return no_edges(f),
-            EdgeRead::Got(edge, q) => {
+        match table_edge_at(s, edition, n, p) {
+            TableEdgeRead::Fault(f) => return no_edges(f),
+            TableEdgeRead::Got(edge, q) => {
                 list[i] = edge;
                 p = q;
             }
@@ -145,11 +149,11 @@ pub fn steps_at(s: &[u8], at: usize) -> Steps
 }
 
 // The count of edges, then the edges, of a table of n steps.
-pub fn edges_at(s: &[u8], n: usize, at: usize) -> Edges
-    ensures { λ r. ⌜ ListRead maxEdges noEdge (edgesAt (now (s .entry)) n at) (r .verdict) (r .m) (r .list) (r .next) ⌝ }
+pub fn edges_at(s: &[u8], edition: usize, n: usize, at: usize) -> Edges
+    ensures { λ r. ⌜ ListRead maxEdges noTableEdge (edgesAt (now (s .entry)) edition n at) (r .verdict) (r .m) (r .list) (r .next) ⌝ }
 {
     match number_in(s, at, 0, MAX_EDGES, Refusal::ManyEdges) {
         NumberRead::Fault(f) => no_edges(f),
-        NumberRead::Got(m, p) => many_edges(s, n, p, m),
+        NumberRead::Got(m, p) => many_edges(s, edition, n, p, m),
     }
 }

@@ -1,7 +1,7 @@
 // What the reader gives: steps, the table, and why there is none.
 use crate::limits::MAX_EDGES;
 use crate::limits::MAX_STEPS;
-use graph::Edge;
+use graph::TableEdge;
 use outcome::Verdict;
 
 // What a step is, with the number that its kind carries: hundredths of a dB for an adjustment, minutes for a wait.
@@ -23,7 +23,7 @@ pub struct Table {
     pub n: usize,
     pub steps: [Step; MAX_STEPS],
     pub m: usize,
-    pub edges: [Edge; MAX_EDGES],
+    pub edges: [TableEdge; MAX_EDGES],
 }
 
 // A table, or why there is none; then the table is blank.

@@ -28,15 +28,15 @@ pub fn refuse_table(f: Refusal) -> TableRead
 }
 
 // What stands behind the edition.
-pub fn read_lists(bytes: &[u8], at: usize) -> TableRead
-    ensures { λ r. ⌜ r ≡ tableRead (outcome (listsAt (now (bytes .entry)) at)) ⌝ }
+pub fn read_lists(bytes: &[u8], edition: usize, at: usize) -> TableRead
+    ensures { λ r. ⌜ r ≡ tableRead (outcome (listsAt (now (bytes .entry)) edition at)) ⌝ }
 {
     let steps = steps_at(bytes, at);
     let verdict = steps.verdict;
     match verdict {
         Verdict::Refused(f) => refuse_table(f),
         Verdict::Accepted => {
-            let edges = edges_at(bytes, steps.n, steps.next);
+            let edges = edges_at(bytes, edition, steps.n, steps.next);
             let judged = edges.verdict;
             match judged {
                 Verdict::Refused(f) => refuse_table(f),

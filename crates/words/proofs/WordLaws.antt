@@ -5,7 +5,7 @@ use Prim.Native.Nat.{ℕ, _+_, _*_, _/_, _%_, _≤_, _<_}
 use native.Mathlib.Omega.{arith}
 use lib.ListN.{getD}
 use Rattle.outcome.specs.declared.Refusal.{Refusal}
-use Rattle.outcome.specs.declared.Refusal.the-variants.{Cut, Overlong, BadEdition, ManySteps, BadKind, OutOfRange, BadNameByte, ManyEdges, BadEnd, Spare, Loop, ManyPoints, ShortBuffer, NoStep}
+use Rattle.outcome.specs.declared.Refusal.the-variants.{Cut, Overlong, BadEdition, ManySteps, BadKind, OutOfRange, BadNameByte, ManyEdges, BadEnd, Spare, Loop, ManyPoints, ShortBuffer, NoStep, BadFirmness}
 use Rattle.outcome.specs.Refusal.{numbersOf, stepOf, refusalIn}
 use Rattle.ordering.specs.declared.Figures.{Figures}
 use Rattle.ordering.specs.Calls.{figuresNumbers, ChartBest}
@@ -39,6 +39,7 @@ refusal-read values (Loop s) h = rw (low, eleven, step)
 refusal-read values ManyPoints h = refl
 refusal-read values ShortBuffer h = refl
 refusal-read values NoStep h = refl
+refusal-read values BadFirmness h = refl
 
 -- no more than two numbers come with a refusal, and one alone but with a loop, so its word is the same in every call
 pub refusal-short : (f : Refusal) → (getD (numbersOf f) 2 0 ≡ 0) × (getD (numbersOf f) 3 0 ≡ 0)
@@ -56,6 +57,7 @@ refusal-short (Loop s) = (refl, refl)
 refusal-short ManyPoints = (refl, refl)
 refusal-short ShortBuffer = (refl, refl)
 refusal-short NoStep = (refl, refl)
+refusal-short BadFirmness = (refl, refl)
 
 -- so much is said of a word by its call: the numbers read out of it, and which word it is
 module _ (f : Refusal) (low : stepOf f < second) {w : ℕ} (is : w ≡ doneWord (numbersOf f)) {numbers : List ℕ} (e : numbersOf f ≡ numbers) where

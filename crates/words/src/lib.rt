@@ -70,5 +70,6 @@ fn loop_step(f: Refusal) -> usize
         Refusal::ManyPoints => 0,
         Refusal::ShortBuffer => 0,
         Refusal::NoStep => 0,
+        Refusal::BadFirmness => 0,
     }
 }

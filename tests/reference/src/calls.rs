@@ -1,8 +1,9 @@
 //! The five calls as a C caller meets them: packed answers, lent buffers.
 
 use crate::chart::{draw_chart, Chart};
-use crate::records::{rows_of_edges, rows_of_records, Record};
+use crate::records::{rows_of_records, Record};
 use crate::refusal::Refusal;
+use crate::soft::rows_of_table;
 use crate::table::{read_table, Table};
 
 /// The refusal's number in the low byte; a loop's step in the byte above.
@@ -27,7 +28,7 @@ pub fn name(table: &Result<Table, Refusal>, step: usize) -> Result<u64, Refusal>
 }
 
 pub fn rows(bytes: &[u8], buffer: &mut [u8]) -> u64 {
-    let rows = read_table(bytes).and_then(|table| rows_of_edges(table.steps.len(), &table.edges));
+    let rows = read_table(bytes).and_then(|table| rows_of_table(&table));
     pack(hand_out_rows(&rows, buffer))
 }
 

@@ -2,13 +2,15 @@
 
 use crate::order::{find_order, Order};
 use crate::points::{count_points, place_points, Layout, MAX_POINTS};
-use crate::records::rows_of_edges;
 use crate::refusal::Refusal;
-use crate::rows::total;
+use crate::rows::{find_rows, total};
+use crate::soft::settle;
 use crate::table::Table;
 
 pub struct Chart {
     pub rows: Vec<usize>,
+    /// Of each edge of the table, whether it was turned.
+    pub turned: Vec<bool>,
     pub total: u64,
     pub layout: Layout,
     pub order: Order,
@@ -29,11 +31,13 @@ impl Chart {
 }
 
 pub fn draw_chart(table: &Table) -> Result<Chart, Refusal> {
-    let rows = rows_of_edges(table.steps.len(), &table.edges)?;
-    if count_points(&table.edges, &rows) > MAX_POINTS {
+    let settled = settle(table.steps.len(), &table.edges)?;
+    let rows = find_rows(table.steps.len(), &settled.edges);
+    if count_points(&settled.edges, &rows) > MAX_POINTS {
         return Err(Refusal::TooManyPoints);
     }
-    let layout = place_points(&table.edges, &rows);
+    let total = total(&settled.edges, &rows);
+    let layout = place_points(&settled.edges, &rows);
     let (order, crossings, best_pass) = find_order(&layout);
-    Ok(Chart { total: total(&table.edges, &rows), rows, layout, order, crossings, best_pass })
+    Ok(Chart { rows, turned: settled.turned, total, layout, order, crossings, best_pass })
 }

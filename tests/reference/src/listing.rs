@@ -41,7 +41,8 @@ pub fn list_chart(bytes: &[u8], table: &Table, chart: &Chart) -> Vec<u8> {
 
 fn point_text(bytes: &[u8], table: &Table, chart: &Chart, point: usize) -> Vec<u8> {
     if let Some(edge) = chart.layout.edge_of[point] {
-        return format!("|{edge}").into_bytes();
+        let mark = if chart.turned[edge] { '^' } else { '|' };
+        return format!("{mark}{edge}").into_bytes();
     }
     let step = &table.steps[point];
     let mut text = bytes[step.name_start..step.name_start + step.name_len].to_vec();

@@ -12,11 +12,12 @@ pub enum Refusal {
     TooManyEdges,
     BadEnd,
     SpareBytes,
-    /// Carries the lowest step that lies on a loop.
+    /// Carries the lowest step that lies on a loop of must edges.
     Loop(usize),
     TooManyPoints,
     ShortBuffer,
     NoSuchStep,
+    BadFirmness,
 }
 
 impl Refusal {
@@ -36,6 +37,7 @@ impl Refusal {
             Refusal::TooManyPoints => 12,
             Refusal::ShortBuffer => 13,
             Refusal::NoSuchStep => 14,
+            Refusal::BadFirmness => 15,
         }
     }
 }

@@ -26,10 +26,17 @@ pub struct Edge {
     pub weight: u32,
 }
 
+/// An edge as the table has it, and whether it may give way.
+#[derive(Clone, Copy, PartialEq, Eq, Debug)]
+pub struct TableEdge {
+    pub edge: Edge,
+    pub soft: bool,
+}
+
 #[derive(Clone, PartialEq, Eq, Debug)]
 pub struct Table {
     pub steps: Vec<Step>,
-    pub edges: Vec<Edge>,
+    pub edges: Vec<TableEdge>,
 }
 
 /// What is in range. The product's limits are `LIMITS`; wrong variants alter one of them.
@@ -46,11 +53,12 @@ pub struct Limits {
     pub edges: u32,
     pub gap: RangeInclusive<u32>,
     pub weight: RangeInclusive<u32>,
+    pub firmness: RangeInclusive<u32>,
 }
 
 pub const LIMITS: Limits = Limits {
     number_bytes: 3,
-    edition: 1..=1,
+    edition: 1..=2,
     steps: 64,
     kinds: 3,
     tolerance: 0..=9999,
@@ -60,6 +68,7 @@ pub const LIMITS: Limits = Limits {
     edges: 192,
     gap: 1..=4,
     weight: 0..=255,
+    firmness: 0..=1,
 };
 
 pub fn read_table(bytes: &[u8]) -> Result<Table, Refusal> {
@@ -69,7 +78,7 @@ pub fn read_table(bytes: &[u8]) -> Result<Table, Refusal> {
 /// Reads fields in order; each is judged as soon as its last byte is there.
 pub fn read_within(bytes: &[u8], limits: &Limits) -> Result<Table, Refusal> {
     let mut reader = Reader { bytes, at: 0, limits };
-    reader.number_in(&limits.edition, Refusal::Edition)?;
+    let edition = reader.number_in(&limits.edition, Refusal::Edition)?;
     let step_count = reader.number_in(&(0..=limits.steps), Refusal::TooManySteps)?;
     let mut steps = Vec::new();
     for _ in 0..step_count {
@@ -78,7 +87,10 @@ pub fn read_within(bytes: &[u8], limits: &Limits) -> Result<Table, Refusal> {
     let edge_count = reader.number_in(&(0..=limits.edges), Refusal::TooManyEdges)?;
     let mut edges = Vec::new();
     for _ in 0..edge_count {
-        edges.push(reader.edge(step_count)?);
+        let edge = reader.edge(step_count)?;
+        // Edition 1 has no firmness: its edges are must.
+        let soft = edition > 1 && reader.number_in(&limits.firmness, Refusal::BadFirmness)? > 0;
+        edges.push(TableEdge { edge, soft });
     }
     if reader.at < bytes.len() {
         return Err(Refusal::SpareBytes);

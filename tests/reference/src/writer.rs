@@ -14,6 +14,8 @@ pub enum Field {
 pub struct Draft {
     pub steps: Vec<(Kind, Vec<u8>)>,
     pub edges: Vec<Edge>,
+    /// For each edge its firmness, in edition 2; none in edition 1.
+    pub firmness: Option<Vec<u32>>,
 }
 
 pub fn short(value: u32) -> Field {
@@ -21,7 +23,8 @@ pub fn short(value: u32) -> Field {
 }
 
 pub fn fields_of(draft: &Draft) -> Vec<Field> {
-    let mut fields = vec![short(1), short(draft.steps.len() as u32)];
+    let edition = if draft.firmness.is_some() { 2 } else { 1 };
+    let mut fields = vec![short(edition), short(draft.steps.len() as u32)];
     for (kind, name) in &draft.steps {
         match *kind {
             Kind::Check => fields.push(short(0)),
@@ -32,8 +35,9 @@ pub fn fields_of(draft: &Draft) -> Vec<Field> {
         fields.extend(name.iter().map(|&byte| Field::Byte(byte)));
     }
     fields.push(short(draft.edges.len() as u32));
-    for edge in &draft.edges {
+    for (index, edge) in draft.edges.iter().enumerate() {
         fields.extend([edge.from as u32, edge.to as u32, edge.gap, edge.weight].map(short));
+        fields.extend(draft.firmness.iter().map(|firmness| short(firmness[index])));
     }
     fields
 }

@@ -5,8 +5,7 @@ use Prim.Native.Nat.{_<_}
 use Rattle.outcome.specs.Refusal.{stepOf}
 use Rattle.queries.specs.Calls.{countsNumbers}
 use Rattle.words.specs.Words.{second}
-use Rattle.table.proofs.RangeLaws.{read-range}
-use Rattle.outcome.proofs.ToldLaws.{alone}
+use Rattle.table.proofs.RangeLaws.{read-alone}
 use Rattle.queries.proofs.CountLaws.{counts-not, counts-low}
 use Rattle.words.proofs.WordLaws.{counts-refused, counts-told}
 use borrow.Author.Needs.{needs}
@@ -22,7 +21,7 @@ enum-known-f c = search needs
 refusal-word-requires : tie.Need-refusal-word-requires
 refusal-word-requires c κs = let told = c .before .before .before .count-table .ensures in
     let f = c .before .f .given in
-    omega (arith, alone (f .0 .0) (λ e. omega (arith, read-range _ (counts-not _ told (f .1)))))
+    omega (arith, read-alone _ (counts-not _ told (f .1)))
 
 enum-known-c : tie.Need-enum-known-c
 enum-known-c c = search needs
@@ -34,7 +33,7 @@ counts-word-requires c κs = let low = counts-low _ (c .before .before .before .
 returns : tie.Need-returns
 returns c = let told = c .before .before .before .before .count-table .ensures in
     let f = c .before .before .f .given in
-    let low : stepOf (f .0 .0) < second = omega (arith, alone (f .0 .0) (λ e. omega (arith, read-range _ (counts-not _ told (f .1))))) in
+    let low : stepOf (f .0 .0) < second = omega (arith, read-alone _ (counts-not _ told (f .1))) in
     counts-refused (f .0 .0) low (c .refusal-word .ensures) (sym (ap countsNumbers (f .1)) ∙ told)
 
 returns-2 : tie.Need-returns-2

@@ -1,9 +1,7 @@
--- A refused table leaves the buffer; the flat arrays of an accepted one hold its edges, which are fair, and what is found is handed out.
+-- A refused table leaves the buffer; what is found for the edges of an accepted one, which are fair, is handed out.
 use denote.Ref.{now}
 use Rattle.table.proofs.AnswerLaws.{read-refused, read-accepted}
-use Rattle.flatten.proofs.FlattenLaws.{flattened-full}
-use Rattle.ranking.proofs.PlaceLaws.{flattened-fair, flattened-placed}
-use Rattle.layering.proofs.CallLaws.{table-count, table-few, table-long, table-fair, table-placed, refused-call, table-call}
+use Rattle.layering.proofs.CallLaws.{table-count, table-orientable, table-ranked, refused-call, table-call}
 use borrow.Author.Needs.{needs}
 use Rattle.layering.proofs.find_rows.Statement.{statement}
 use Rattle.layering.proofs.find_rows.Tie as tie
@@ -17,19 +15,12 @@ enum-known-verdict c = search needs
 enum-told : tie.Need-enum-told
 enum-told c = search needs
 
-flatten-edges-requires : tie.Need-flatten-edges-requires
-flatten-edges-requires c κs =
-    let t = read-accepted _ _ (c .before .before .before .before .read-table .ensures) (c .before .before .enum-told .given .1) in
-    (table-few _ _ t, table-long _ _ t)
-
-place-edges-requires : tie.Need-place-edges-requires
-place-edges-requires c κs =
-    let t = read-accepted _ _ (c .before .before .before .before .before .read-table .ensures) (c .before .before .before .enum-told .given .1) in
-    let f = c .flatten-edges .ensures in
-    (flattened-fair _ f _ (table-fair _ _ t), (table-few _ _ t, flattened-full _ f))
+rank-edges-requires : tie.Need-rank-edges-requires
+rank-edges-requires c κs =
+    table-orientable _ _ (read-accepted _ _ (c .before .before .before .before .read-table .ensures) (c .before .before .enum-told .given .1))
 
 hand-out-requires : tie.Need-hand-out-requires
-hand-out-requires c κs = search needs
+hand-out-requires c κs = c .before .before .rank-edges .ensures .placed .low
 
 returns : tie.Need-returns
 returns c =
@@ -41,9 +32,10 @@ same-length c = search needs
 
 returns-2 : tie.Need-returns-2
 returns-2 c =
-    let t = read-accepted _ _ (c .before .before .before .before .before .before .before .before .before .before .read-table .ensures) (c .before .before .before .before .before .before .before .before .enum-told .given .1) in
-    let placed = table-placed _ _ t (flattened-placed _ (c .before .before .before .before .before .flatten-edges .ensures) _ _ (c .before .before .before .before .place-edges .ensures)) in
-    table-call _ _ _ _ _ _ (table-count _ _ t) placed (c .before .before .hand-out .ensures)
+    let after-rank-edges = c .before .before .before .before .before in
+    let after-enum-told = after-rank-edges .before .before .before in
+    let t = read-accepted _ _ (after-enum-told .before .before .read-table .ensures) (after-enum-told .enum-told .given .1) in
+    table-call _ _ _ _ _ _ (table-count _ _ t) (table-ranked _ _ t (after-rank-edges .rank-edges .ensures) .1) (c .before .before .hand-out .ensures)
 
 pub find-rows-spec : {M : Type 1} → statement M
 find-rows-spec =
@@ -52,8 +44,7 @@ find-rows-spec =
     read-table-requires
     enum-known-verdict
     enum-told
-    flatten-edges-requires
-    place-edges-requires
+    rank-edges-requires
     hand-out-requires
     returns
     same-length

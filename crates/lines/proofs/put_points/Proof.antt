@@ -17,16 +17,16 @@ use Rattle.lines.proofs.put_points.Statement.{statement}
 use Rattle.lines.proofs.put_points.Tie as tie
 
 abbrev Inv-loop : tie.InvT-loop
-Inv-loop bytes steps ys owners rows order r from out₀ at point₀ next₀ out point next = (point ≤ length order) × Writing out₀ at (fieldsIn (labelText bytes steps (length ys) owners) (ys ++ rows) r (drop from order)) out next (fieldsIn (labelText bytes steps (length ys) owners) (ys ++ rows) r (drop point order)) × (point + length (leading (ys ++ rows) r (drop point order)) ≡ from + length (leading (ys ++ rows) r (drop from order)))
+Inv-loop bytes steps ys owners turned rows order r from out₀ at point₀ next₀ out point next = (point ≤ length order) × Writing out₀ at (fieldsIn (labelText bytes steps (length ys) owners turned) (ys ++ rows) r (drop from order)) out next (fieldsIn (labelText bytes steps (length ys) owners turned) (ys ++ rows) r (drop point order)) × (point + length (leading (ys ++ rows) r (drop point order)) ≡ from + length (leading (ys ++ rows) r (drop from order)))
 
 abbrev μ-loop : tie.MeasureT-loop
-μ-loop bytes steps ys owners rows order r from out₀ at point₀ next₀ out point next = length order - point
+μ-loop bytes steps ys owners turned rows order r from out₀ at point₀ next₀ out point next = length order - point
 
 abbrev S : Type 0
 S = tie.Start Inv-loop μ-loop
 
 abbrev show-of : S → ℕ → List ℕ
-show-of c = labelText (now (c .args .bytes)) (c .args .steps) (length (now (c .args .ys))) (now (c .args .owners))
+show-of c = labelText (now (c .args .bytes)) (c .args .steps) (length (now (c .args .ys))) (now (c .args .owners)) (c .args .turned)
 
 abbrev rows-of : S → List ℕ
 rows-of c = now (c .args .ys) ++ now (c .args .rows)
@@ -59,7 +59,7 @@ row-of-requires : tie.Need-row-of-requires Inv-loop μ-loop
 row-of-requires c κs = c .before .before .before .before .before .before .before .before .before .pre .0 .points .below _ (c .before .loop-test .taken)
 
 put-point-requires : tie.Need-put-point-requires Inv-loop μ-loop
-put-point-requires c κs = let s = c .before .before .before .before .before .before .before .before .before .before .before .before in let l = c .before .before .before .before .before in (sheet-label _ _ _ _ (now (s .args .rows)) _ (s .pre .0) (l .loop .point) (c .before .before .before .before .loop-test .taken), writing-room (blank ∷ show-of s (entry (now (s .args .order)) (l .loop .point))) (still s (l .loop .point + 1)) (next-in (c .before .before .before .before) (sym (c .before .before .row-of .ensures) ∙ c .before .if1 .left)) (l .loop .inv .1))
+put-point-requires c κs = let s = c .before .before .before .before .before .before .before .before .before .before .before .before in let l = c .before .before .before .before .before in (sheet-label _ _ _ _ _ (now (s .args .rows)) _ (s .pre .0) (l .loop .point) (c .before .before .before .before .loop-test .taken), writing-room (blank ∷ show-of s (entry (now (s .args .order)) (l .loop .point))) (still s (l .loop .point + 1)) (next-in (c .before .before .before .before) (sym (c .before .before .row-of .ensures) ∙ c .before .if1 .left)) (l .loop .inv .1))
 
 add-point : tie.Need-add-point Inv-loop μ-loop
 add-point c = search needs

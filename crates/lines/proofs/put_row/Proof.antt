@@ -15,7 +15,7 @@ use Rattle.lines.proofs.put_row.Statement.{statement}
 use Rattle.lines.proofs.put_row.Tie as tie
 
 abbrev show-of : tie.Start → ℕ → List ℕ
-show-of c = labelText (now (c .args .bytes)) (c .args .steps) (length (now (c .args .ys))) (now (c .args .owners))
+show-of c = labelText (now (c .args .bytes)) (c .args .steps) (length (now (c .args .ys))) (now (c .args .owners)) (c .args .turned)
 
 abbrev rows-of : tie.Start → List ℕ
 rows-of c = now (c .args .ys) ++ now (c .args .rows)

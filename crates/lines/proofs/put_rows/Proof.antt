@@ -13,13 +13,13 @@ use Rattle.lines.proofs.put_rows.Statement.{statement}
 use Rattle.lines.proofs.put_rows.Tie as tie
 
 abbrev Inv-loop : tie.InvT-loop
-Inv-loop bytes steps ys owners rows order height out₀ at point₀ next₀ r₀ out point next r = (r ≤ height) × (point ≤ length order) × Writing out₀ at (linesFrom (labelText bytes steps (length ys) owners) (ys ++ rows) 0 height order) out next (linesFrom (labelText bytes steps (length ys) owners) (ys ++ rows) r (height - r) (drop point order))
+Inv-loop bytes steps ys owners turned rows order height out₀ at point₀ next₀ r₀ out point next r = (r ≤ height) × (point ≤ length order) × Writing out₀ at (linesFrom (labelText bytes steps (length ys) owners turned) (ys ++ rows) 0 height order) out next (linesFrom (labelText bytes steps (length ys) owners turned) (ys ++ rows) r (height - r) (drop point order))
 
 abbrev μ-loop : tie.MeasureT-loop
-μ-loop bytes steps ys owners rows order height out₀ at point₀ next₀ r₀ out point next r = height - r
+μ-loop bytes steps ys owners turned rows order height out₀ at point₀ next₀ r₀ out point next r = height - r
 
 abbrev show-of : tie.Start Inv-loop μ-loop → ℕ → List ℕ
-show-of c = labelText (now (c .args .bytes)) (c .args .steps) (length (now (c .args .ys))) (now (c .args .owners))
+show-of c = labelText (now (c .args .bytes)) (c .args .steps) (length (now (c .args .ys))) (now (c .args .owners)) (c .args .turned)
 
 abbrev rows-of : tie.Start Inv-loop μ-loop → List ℕ
 rows-of c = now (c .args .ys) ++ now (c .args .rows)

@@ -1,6 +1,8 @@
--- A table or rows that are refused have no chart; the arrays of others hold the edges and their best rows.
-use Rattle.layering.proofs.CallLaws.{table-here, table-found}
-use Rattle.ordering.proofs.CallLaws.{table-refused, taken, table-few, table-long, table-solved, table-drawn, chart-end}
+-- A table or rows that are refused have no chart; the arrays of others hold the edges, which of them are turned, and their best rows.
+use mathlib.Core.Path.{ap}
+use Rattle.layering.specs.Calls.{PlaceEnd}
+use Rattle.layering.proofs.CallLaws.{table-here, table-flags, table-found}
+use Rattle.ordering.proofs.CallLaws.{table-refused, taken, table-few, table-long, flags-long, table-solved, table-drawn, chart-end}
 use borrow.Author.Needs.{needs}
 use Rattle.ordering.proofs.chart_table.Statement.{statement}
 use Rattle.ordering.proofs.chart_table.Tie as tie
@@ -19,18 +21,32 @@ enum-told c = search needs
 
 draw-edges-requires : tie.Need-draw-edges-requires
 draw-edges-requires c κs =
-    let after-place-table = c .before .before .before .before .before .before in
-    let p = after-place-table .place-table in let same = table-here _ (p .result) (p .ensures .0) (p .ensures .1) in let placed = table-found _ (p .result) (p .ensures .0) (p .ensures .1) in let a = c .before .before .enum-told .given .1 in let t = taken _ _ _ same placed a in (table-solved _ _ _ same placed a t, (table-few _ _ _ same placed a t, table-long _ _ _ same placed a t))
+    let p = c .before .before .before .before .before .before .before .place-table in
+    let same = table-here _ (p .result) (p .ensures .0) (p .ensures .1) in
+    let set = table-flags _ (p .result) (p .ensures .0) (p .ensures .1) in
+    let placed = table-found _ (p .result) (p .ensures .0) (p .ensures .1) in
+    let a = c .before .before .enum-told .given .1 in
+    let t = taken _ _ _ _ same set placed a in
+    (table-solved _ _ _ _ same set placed a t, ((table-few _ _ _ _ same set placed a t, table-long _ _ _ _ same set placed a t), flags-long _ _ _ _ same set placed a t))
 
 returns : tie.Need-returns
 returns c =
-    let after-place-table = c .before .before .before .before .before .before in
-    let p = after-place-table .place-table in let same = table-here _ (p .result) (p .ensures .0) (p .ensures .1) in let placed = table-found _ (p .result) (p .ensures .0) (p .ensures .1) in let found = table-refused _ _ _ same placed (c .before .before .verdict .given .1) _ (c .refuse-chart .ensures) in (chart-end _ _ same found, found)
+    let p = c .before .before .before .before .before .before .before .place-table in
+    let same = table-here _ (p .result) (p .ensures .0) (p .ensures .1) in
+    let set = table-flags _ (p .result) (p .ensures .0) (p .ensures .1) in
+    let placed = table-found _ (p .result) (p .ensures .0) (p .ensures .1) in
+    let found = table-refused _ _ _ _ same set placed (c .before .before .verdict .given .1) _ (c .refuse-chart .ensures) in
+    (chart-end _ _ (ap (λ (x : PlaceEnd). x .table) (p .ensures .0)) (ap (λ (x : PlaceEnd). x .turned) (p .ensures .0)) found, found)
 
 returns-2 : tie.Need-returns-2
 returns-2 c =
-    let after-place-table = c .before .before .before .before .before .before .before in
-    let p = after-place-table .place-table in let same = table-here _ (p .result) (p .ensures .0) (p .ensures .1) in let placed = table-found _ (p .result) (p .ensures .0) (p .ensures .1) in let a = c .before .before .before .enum-told .given .1 in let found = table-drawn _ _ _ same placed a (taken _ _ _ same placed a) _ (c .draw-edges .ensures) in (chart-end _ _ same found, found)
+    let p = c .before .before .before .before .before .before .before .before .place-table in
+    let same = table-here _ (p .result) (p .ensures .0) (p .ensures .1) in
+    let set = table-flags _ (p .result) (p .ensures .0) (p .ensures .1) in
+    let placed = table-found _ (p .result) (p .ensures .0) (p .ensures .1) in
+    let a = c .before .before .before .enum-told .given .1 in
+    let found = table-drawn _ _ _ _ same set placed a (taken _ _ _ _ same set placed a) _ (c .draw-edges .ensures) in
+    (chart-end _ _ (ap (λ (x : PlaceEnd). x .table) (p .ensures .0)) (ap (λ (x : PlaceEnd). x .turned) (p .ensures .0)) found, found)
 
 pub chart-table-spec : {M : Type 1} → statement M
 chart-table-spec =

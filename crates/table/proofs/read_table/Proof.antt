@@ -17,8 +17,8 @@ enum-known-f c = c .match .keys1
 refuse-table-requires : tie.Need-refuse-table-requires
 refuse-table-requires c κs = tt
 
-enum-known-at : tie.Need-enum-known-at
-enum-known-at c = c .match .keys2
+enum-known-edition : tie.Need-enum-known-edition
+enum-known-edition c = c .match .keys2
 
 read-lists-requires : tie.Need-read-lists-requires
 read-lists-requires c κs = tt
@@ -29,7 +29,7 @@ returns c = whole-read _ (c .refuse-table .ensures ∙ ap (λ x. tableRead (outc
 
 returns-2 : tie.Need-returns-2
 unfolding read tableAt
-returns-2 c = whole-read _ (c .read-lists .ensures ∙ ap (λ x. tableRead (outcome x)) (then-got _ (sym (c .before .before .before .before .number-in .ensures) ∙ ap numberRead (c .before .before .at .given .1)) refl))
+returns-2 c = whole-read _ (c .read-lists .ensures ∙ ap (λ x. tableRead (outcome x)) (then-got _ (sym (c .before .before .before .before .number-in .ensures) ∙ ap numberRead (c .before .before .edition .given .1)) refl))
 
 pub read-table-spec : {M : Type 1} → statement M
 read-table-spec =
@@ -38,7 +38,7 @@ read-table-spec =
     number-in-requires
     enum-known-f
     refuse-table-requires
-    enum-known-at
+    enum-known-edition
     read-lists-requires
     returns
     returns-2)

@@ -2,6 +2,7 @@
 
 use reference::random::Random;
 use reference::records::Record;
+use reference::soft::turn;
 use reference::table::{Edge, Kind};
 use reference::writer::Draft;
 
@@ -80,7 +81,27 @@ pub fn dress(random: &mut Random, shape: &Shape, gaps: Gaps, weights: Weights) -
 }
 
 pub fn draft(random: &mut Random, steps: usize, edges: Vec<Edge>) -> Draft {
-    Draft { steps: (0..steps).map(|_| (any_kind(random), any_name(random))).collect(), edges }
+    Draft { steps: (0..steps).map(|_| (any_kind(random), any_name(random))).collect(), edges, firmness: None }
+}
+
+/// The draft in edition 2, with so many tenths of its edges soft, and some of these the other way round. Must edges
+/// keep their way: where the draft has no loop, they have none.
+pub fn soften(random: &mut Random, draft: Draft, tenths: usize) -> Draft {
+    let back_tenths = random.pick(&[1, 3, 5, 9]);
+    let mut softened = Draft { firmness: Some(Vec::new()), edges: Vec::new(), ..draft };
+    for edge in draft.edges {
+        let soft = random.below(10) < tenths;
+        let back = soft && random.below(10) < back_tenths;
+        softened.edges.push(if back { turn(edge) } else { edge });
+        softened.firmness.as_mut().unwrap().push(u32::from(soft));
+    }
+    softened
+}
+
+/// A few or many of the edges soft, now and then all or none.
+pub fn soften_some(random: &mut Random, draft: Draft) -> Draft {
+    let tenths = random.pick(&[0, 1, 3, 5, 8, 10]);
+    soften(random, draft, tenths)
 }
 
 pub fn any_kind(random: &mut Random) -> Kind {

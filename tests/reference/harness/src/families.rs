@@ -7,6 +7,7 @@ mod limits;
 mod loops;
 mod points;
 mod records;
+mod soft;
 mod spoiled;
 
 use reference::random::Random;
@@ -34,9 +35,19 @@ const fn fixed(name: &'static str, groups: usize, run: fn(&mut Judge, &mut Rando
 pub const FAMILIES: &[Family] = &[
     fixed("stated cases", 1, limits::stated_cases),
     fixed("limits", 1, limits::field_limits),
+    fixed("soft limits", 1, limits::soft_limits),
     fixed("all tiny graphs", graphs::TINY_GRAPHS, graphs::all_tiny),
+    fixed("all tiny soft graphs", graphs::TINY_GRAPHS, soft::all_tiny),
     fixed("all short tables", bytes::SHORT_TABLES, bytes::all_short),
+    fixed("all short soft edges", bytes::SHORT_TABLES, bytes::all_short_soft),
     endless("tiny", 6000, graphs::tiny),
+    endless("mixed firmness", 4000, soft::mixed),
+    endless("all soft", 2000, soft::all_soft),
+    endless("all must", 1000, soft::all_must),
+    endless("soft before must", 1000, soft::before_must),
+    endless("soft after must", 1000, soft::after_must),
+    endless("soft parallel", 1000, soft::parallel),
+    endless("soft loops", 2000, soft::loops),
     endless("loops", 2000, loops::any_loop),
     endless("loops after tails", 1000, loops::after_tail),
     endless("records", 3000, records::valid),
@@ -46,11 +57,16 @@ pub const FAMILIES: &[Family] = &[
     endless("spare bytes", 500, bytes::spare),
     endless("long forms", 1500, bytes::long_forms),
     endless("long input", 60, bytes::long_input),
+    endless("long soft input", 30, bytes::long_soft_input),
     endless("two spoiled fields", 3000, spoiled::two_fields),
+    endless("two soft fields", 3000, spoiled::two_soft_fields),
     endless("mutated", 6000, bytes::mutated),
+    endless("mutated soft", 3000, bytes::mutated_soft),
     endless("random bytes", 6000, bytes::random_bytes),
     endless("point limit", 600, points::near_limit),
+    endless("soft point limit", 200, points::soft_near_limit),
     endless("buffers", 400, buffers::all_lengths),
+    endless("soft buffers", 200, soft::buffers),
     endless("sparse", 1500, graphs::sparse),
     endless("dense", 1000, graphs::dense),
     endless("chains", 700, graphs::chain),
@@ -66,12 +82,16 @@ pub const FAMILIES: &[Family] = &[
     endless("long edges", 1000, graphs::long),
     endless("single rows", 200, graphs::single_row),
     endless("full", 150, graphs::full),
+    endless("half turned", 150, soft::half_turned),
     endless("cut", 300, bytes::cut_everywhere),
+    endless("cut soft", 100, bytes::cut_soft),
     endless("spoiled fields", 60, spoiled::each_field),
+    endless("spoiled soft fields", 25, spoiled::each_soft_field),
 ];
 
-/// A generator of its own for each group.
-pub fn group_random(seed: u64, family: usize, group: usize) -> Random {
-    let mut mixer = Random::new(seed ^ (family as u64) << 48 ^ (group as u64) << 8);
+/// A generator of its own for each group, by the family's name, so that a family keeps its cases when others come.
+pub fn group_random(seed: u64, family: &str, group: usize) -> Random {
+    let named = family.bytes().fold(seed, |mixed, byte| Random::new(mixed ^ u64::from(byte)).next());
+    let mut mixer = Random::new(named ^ (group as u64) << 8);
     Random::new(mixer.next())
 }

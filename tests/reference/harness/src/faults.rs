@@ -35,7 +35,8 @@ pub fn run(only: &str) -> i32 {
     i32::from(missed > 0)
 }
 
-/// The options of the runs that have to catch a variant. Three calls hand out rows, and wrong rows are to be caught in each.
+/// The options of the runs that have to catch a variant. Three calls hand out rows, and wrong rows are to be caught in
+/// each; two of them have soft edges.
 fn trials(fault: &str) -> Vec<Vec<&'static str>> {
     if fault.starts_with("print") {
         return vec![vec!["--calls", "counts", "--program", CHART, "--every", "40"]];
@@ -45,6 +46,9 @@ fn trials(fault: &str) -> Vec<Vec<&'static str>> {
     }
     if fault.starts_with("records") {
         return vec![vec!["--calls", "records"]];
+    }
+    if fault.starts_with("soft") {
+        return ["rows", "chart"].iter().map(|&call| vec!["--calls", call]).collect();
     }
     let in_all_rows = fault.starts_with("rows") && fault != "rows-judge-12";
     if in_all_rows || ["never-written", "refuse-11-always"].contains(&fault) {

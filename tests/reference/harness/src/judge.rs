@@ -5,8 +5,9 @@ mod printed;
 use reference::calls::{counts, hand_out_chart, hand_out_rows, name, pack};
 use reference::chart::{draw_chart, Chart};
 use reference::random::Random;
-use reference::records::{rows_of_edges, rows_of_records, Record};
+use reference::records::{rows_of_records, Record};
 use reference::refusal::Refusal;
+use reference::soft::rows_of_table;
 use reference::table::read_table;
 
 use crate::host::{self, CALLS, CHART, COUNTS, NAME, RECORDS, ROWS};
@@ -79,8 +80,7 @@ impl Judge {
             }
         }
         if self.wanted[ROWS] {
-            let rows = table.as_ref().map_err(|&refusal| refusal);
-            let rows = rows.and_then(|table| rows_of_edges(table.steps.len(), &table.edges));
+            let rows = table.as_ref().map_err(|&refusal| refusal).and_then(rows_of_table);
             let needed = rows.as_ref().map_or(0, Vec::len);
             for len in [needed, self.other_len(needed, rows.is_err())] {
                 self.compare_rows(bytes, &rows, len);
@@ -95,7 +95,7 @@ impl Judge {
 
     fn judge_chart(&mut self, bytes: &[u8], chart: &Result<Chart, Refusal>) {
         if let Ok(chart) = chart {
-            self.tally.note_chart(chart.best_pass);
+            self.tally.note_chart(chart);
         }
         let (steps, points) = chart.as_ref().map_or((0, 0), |chart| (chart.rows.len(), chart.point_count()));
         let other_rows = self.other_len(steps, chart.is_err());
@@ -110,8 +110,7 @@ impl Judge {
     pub fn judge_buffers(&mut self, bytes: &[u8], offsets: &[isize]) {
         let table = read_table(bytes);
         let chart = table.as_ref().map_err(|&refusal| refusal).and_then(draw_chart);
-        let rows = table.as_ref().map_err(|&refusal| refusal);
-        let rows = rows.and_then(|table| rows_of_edges(table.steps.len(), &table.edges));
+        let rows = table.as_ref().map_err(|&refusal| refusal).and_then(rows_of_table);
         let points = chart.as_ref().map_or(0, Chart::point_count);
         let needed = rows.as_ref().map_or(0, Vec::len);
         for &more_rows in offsets {

@@ -42,7 +42,7 @@ fn main() {
 }
 
 fn run_group(judge: &mut Judge, options: &Options, family: usize, group: usize) {
-    let mut random = group_random(options.seed, family, group);
+    let mut random = group_random(options.seed, FAMILIES[family].name, group);
     watch::enter_group(family, group);
     judge.enter_group(FAMILIES[family].name, group, random.clone());
     (FAMILIES[family].run)(judge, &mut random, group);

@@ -2,24 +2,28 @@
 
 use std::time::Duration;
 
+use reference::chart::Chart;
 use reference::order::PASSES;
 
 use crate::host::CALLS;
 
-/// The last refusal that the program gives.
-const MANY_POINTS: usize = 12;
+const REFUSALS: usize = 15;
+/// The refusals that the program gives.
+const PRINTED: [usize; 13] = [1, 2, 3, 4, 5, 6, 7, 8, 9, 10, 11, 12, 15];
 
 pub struct Tally {
     pub cases: u64,
     pub differences: u64,
     pub inputs: u64,
     /// Listings of the program, by the number of the refusal that is due; charts at 0.
-    by_line: [u64; 15],
+    by_line: [u64; REFUSALS + 1],
     by_call: [u64; 5],
     /// Answers due, by the refusal's number; accepted ones at 0.
-    by_refusal: [u64; 15],
+    by_refusal: [u64; REFUSALS + 1],
     /// Charts by the pass whose result is theirs; the start at 0.
     by_pass: [u64; PASSES + 1],
+    /// Charts with turned edges, and how many these are.
+    turned: (u64, usize),
     /// Time spent in each call.
     spent: [Duration; 5],
     /// For each call the longest time, with family and group.
@@ -32,10 +36,11 @@ impl Tally {
             cases: 0,
             differences: 0,
             inputs: 0,
-            by_line: [0; 15],
+            by_line: [0; REFUSALS + 1],
             by_call: [0; 5],
-            by_refusal: [0; 15],
+            by_refusal: [0; REFUSALS + 1],
             by_pass: [0; PASSES + 1],
+            turned: (0, 0),
             spent: [Duration::ZERO; 5],
             slowest: [(Duration::ZERO, "", 0); 5],
         }
@@ -50,8 +55,11 @@ impl Tally {
         }
     }
 
-    pub fn note_chart(&mut self, best_pass: usize) {
-        self.by_pass[best_pass] += 1;
+    pub fn note_chart(&mut self, chart: &Chart) {
+        self.by_pass[chart.best_pass] += 1;
+        let turned = chart.turned.iter().filter(|&&turned| turned).count();
+        self.turned.0 += u64::from(turned > 0);
+        self.turned.1 += turned;
     }
 
     pub fn note_listing(&mut self, refusal: u8) {
@@ -69,23 +77,25 @@ impl Tally {
             let mean = self.spent[call].as_secs_f64() * 1e6 / calls as f64;
             println!("{name:8} {calls:9} calls, mean {mean:.1} us, slowest {longest:.1} us ({family}, group {group})");
         }
-        println!("calls:    accepted {}; refusals {}", self.by_refusal[0], list_counts(&self.by_refusal[1..]));
+        let refused = list_counts(&self.by_refusal, 1..=REFUSALS);
+        println!("calls:    accepted {}; refusals {refused}", self.by_refusal[0]);
         if self.listings() > 0 {
-            let lines = list_counts(&self.by_line[1..=MANY_POINTS]);
+            let lines = list_counts(&self.by_line, PRINTED);
             println!("program:  {} listings, {} of them charts; refusals {lines}", self.listings(), self.by_line[0]);
         }
         if self.inputs > 0 {
             println!("records:  {} inputs of the program", self.inputs);
         }
         println!("charts by the pass that gives the order, from the start on: {:?}", self.by_pass);
+        println!("charts with turned edges: {}, turned edges in them: {}", self.turned.0, self.turned.1);
         let rate = self.cases as f64 / took.as_secs_f64();
         println!("{:.1} s, {rate:.0} cases a second", took.as_secs_f64());
         println!("{} cases, {} differences", self.cases, self.differences);
     }
 }
 
-/// Counts with their numbers, from 1 on.
-fn list_counts(counts: &[u64]) -> String {
-    let met = counts.iter().enumerate().map(|(index, count)| format!("{}: {count}", index + 1));
+/// The counts at these numbers.
+fn list_counts(counts: &[u64], numbers: impl IntoIterator<Item = usize>) -> String {
+    let met = numbers.into_iter().map(|number| format!("{number}: {}", counts[number]));
     met.collect::<Vec<_>>().join(", ")
 }

@@ -9,17 +9,18 @@ use reference::refusal::Refusal;
 use crate::fault::on;
 use crate::wrong_chart::draw;
 use crate::wrong_rows;
-use crate::wrong_table::read;
+use crate::wrong_soft;
+use crate::wrong_table::{read, read_leniently};
 
 pub fn counts(table: &[u8]) -> u64 {
     if on("table-changed") && !table.is_empty() {
         unsafe { (table.as_ptr() as *mut u8).write_volatile(table[0] ^ 1) };
     }
-    calls::pack(calls::counts(&read(table)))
+    calls::pack(calls::counts(&read_leniently(table, "counts-no-15")))
 }
 
 pub fn name(table: &[u8], step: usize) -> u64 {
-    let read = read(table);
+    let read = read_leniently(table, "name-no-15");
     if on("name-14-first") && step >= 64 {
         return 14;
     }
@@ -33,8 +34,9 @@ pub fn rows(table: &[u8], buffer: &mut [u8]) -> u64 {
         if on("short-first") && buffer.len() < table.steps.len() {
             return Err(Refusal::ShortBuffer);
         }
-        let rows = wrong_rows::rows(table.steps.len(), &table.edges)?;
-        if on("rows-judge-12") && count_points(&table.edges, &rows) > MAX_POINTS {
+        let settled = wrong_soft::settle(table.steps.len(), &table.edges);
+        let rows = wrong_soft::rows(table.steps.len(), &settled)?;
+        if on("rows-judge-12") && count_points(&settled.edges, &rows) > MAX_POINTS {
             return Err(Refusal::TooManyPoints);
         }
         Ok(rows)

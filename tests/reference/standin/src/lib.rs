@@ -6,6 +6,7 @@ pub mod fault;
 pub mod wrong_chart;
 mod wrong_order;
 mod wrong_rows;
+mod wrong_soft;
 pub mod wrong_table;
 
 use std::slice::{from_raw_parts, from_raw_parts_mut};

@@ -4,11 +4,12 @@ use reference::chart::Chart;
 use reference::points::{count_points, place_points, Layout, MAX_POINTS};
 use reference::records::rows_of_edges;
 use reference::refusal::Refusal;
+use reference::soft::Settled;
 use reference::table::{read_table, Edge, Table};
 
 use crate::fault::on;
 use crate::wrong_order::find_order;
-use crate::wrong_rows;
+use crate::wrong_soft;
 
 pub const SAMPLE: &[u8] = b"\x01\x04\x02\x1e\x04warm\x00\x04lock\x00\x05sweep\x01\x32\x05level\x04\
 \x00\x01\x01\x01\x01\x02\x02\x03\x00\x03\x01\x01\x03\x02\x01\x05";
@@ -21,8 +22,10 @@ pub fn draw(table: &Table) -> Result<Chart, Refusal> {
     if on("sample-always") {
         return reference::chart::draw_chart(&read_table(SAMPLE)?);
     }
-    let handed_out = wrong_rows::rows(table.steps.len(), &table.edges)?;
-    let rows = rows_of_edges(table.steps.len(), &table.edges)?;
+    let settled = wrong_soft::settle(table.steps.len(), &table.edges);
+    let handed_out = wrong_soft::rows(table.steps.len(), &settled)?;
+    let Settled { edges, turned } = settled;
+    let rows = rows_of_edges(table.steps.len(), &edges)?;
     let most = if on("points-1025") {
         MAX_POINTS + 1
     } else if on("points-1023") {
@@ -30,18 +33,21 @@ pub fn draw(table: &Table) -> Result<Chart, Refusal> {
     } else {
         MAX_POINTS
     };
-    if count_points(&table.edges, &rows) > most {
+    if count_points(&edges, &rows) > most {
         return Err(Refusal::TooManyPoints);
     }
-    let layout = renumber(place_points(&table.edges, &rows));
+    let layout = renumber(place_points(&edges, &rows), &turned);
     let (order, crossings) = find_order(&layout);
-    Ok(Chart { total: total(&table.edges, &handed_out), rows: handed_out, layout, order, crossings, best_pass: 0 })
+    let total = total(&edges, &turned, &handed_out);
+    Ok(Chart { total, rows: handed_out, turned, layout, order, crossings, best_pass: 0 })
 }
 
-fn total(edges: &[Edge], rows: &[usize]) -> u64 {
-    let term = |edge: &Edge| {
+fn total(edges: &[Edge], turned: &[bool], rows: &[usize]) -> u64 {
+    let term = |(edge, &turned): (&Edge, &bool)| {
         let length = rows[edge.to].saturating_sub(rows[edge.from]) as u64;
-        if on("total-unweighted") {
+        if on("total-of-kept") && turned {
+            0
+        } else if on("total-unweighted") {
             length
         } else if on("total-of-gaps") {
             u64::from(edge.weight * edge.gap)
@@ -49,18 +55,21 @@ fn total(edges: &[Edge], rows: &[usize]) -> u64 {
             u64::from(edge.weight) * length
         }
     };
-    edges.iter().map(term).sum()
+    edges.iter().zip(turned).map(term).sum()
 }
 
 /// Gives the pass points other numbers.
-fn renumber(layout: Layout) -> Layout {
+fn renumber(layout: Layout, turned: &[bool]) -> Layout {
     let mut points: Vec<usize> = (0..layout.row_of.len()).collect();
     if on("points-by-row") {
         points
             .sort_by_key(|&point| (layout.edge_of[point].map(|_| layout.row_of[point]), layout.edge_of[point], point));
-    } else if on("points-rising-up") {
-        points
-            .sort_by_key(|&point| (layout.edge_of[point], layout.edge_of[point].map_or(point, |_| usize::MAX - point)));
+    } else if on("points-rising-up") || on("points-turned-up") {
+        let falls = |edge: usize| on("points-rising-up") || turned[edge];
+        let place = |point: usize, edge| if falls(edge) { usize::MAX - point } else { point };
+        points.sort_by_key(|&point| (layout.edge_of[point], layout.edge_of[point].map_or(point, |e| place(point, e))));
+    } else if on("points-turned-last") {
+        points.sort_by_key(|&point| (layout.edge_of[point].is_some_and(|edge| turned[edge]), point));
     }
     let mut number = vec![0; points.len()];
     for (new, &old) in points.iter().enumerate() {

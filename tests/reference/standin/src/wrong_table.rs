@@ -2,6 +2,7 @@
 
 use reference::loops::lowest_on_loop;
 use reference::refusal::Refusal;
+use reference::soft::must_edges;
 use reference::table::{read_within, Limits, Table, LIMITS};
 
 use crate::fault::on;
@@ -15,57 +16,77 @@ pub fn read(bytes: &[u8]) -> Result<Table, Refusal> {
         Err(Refusal::SpareBytes) if on("spare-accepted") => Ok(accepted_start(bytes)),
         Err(Refusal::SpareBytes) if on("spare-after-loop") => {
             let table = accepted_start(bytes);
-            match lowest_on_loop(table.steps.len(), &table.edges) {
+            match lowest_on_loop(table.steps.len(), &must_edges(&table.edges)) {
                 Some(step) => Err(Refusal::Loop(step)),
                 None => Err(Refusal::SpareBytes),
             }
         }
         Err(Refusal::CutShort) if on("cut-as-10") => Err(Refusal::SpareBytes),
         Err(Refusal::BadEnd) if on("bad-end-late") && shows_at_end(bytes) => Err(Refusal::CutShort),
+        Err(Refusal::BadFirmness) if on("firmness-as-6") => Err(Refusal::OutOfRange),
+        Err(Refusal::BadFirmness) if on("firmness-late") => read_any_firmness(bytes).and(Err(Refusal::BadFirmness)),
+        Err(Refusal::OutOfRange) if on("firmness-before-weight") && bad_firmness_next(bytes) => {
+            Err(Refusal::BadFirmness)
+        }
+        Err(Refusal::CutShort) if on("edition-2-of-four") && bytes.first() == Some(&2) => {
+            read_within(&[&[1], &bytes[1..]].concat(), &LIMITS).or(Err(Refusal::CutShort))
+        }
         read => read,
     }
 }
 
+/// The reader of one call that does not judge firmness, where this fault is on.
+pub fn read_leniently(bytes: &[u8], fault: &str) -> Result<Table, Refusal> {
+    match read(bytes) {
+        Err(Refusal::BadFirmness) if on(fault) => read_any_firmness(bytes),
+        read => read,
+    }
+}
+
+fn read_any_firmness(bytes: &[u8]) -> Result<Table, Refusal> {
+    read_within(bytes, &Limits { firmness: 0..=u32::MAX, ..LIMITS })
+}
+
+/// Whether what is out of range is a weight, with a bad firmness right behind it.
+fn bad_firmness_next(bytes: &[u8]) -> bool {
+    let fault_end = (0..bytes.len()).find(|&len| read_within(&bytes[..len], &LIMITS) != Err(Refusal::CutShort));
+    let end = fault_end.map_or(bytes.len(), |len| bytes.len().min(len + LIMITS.number_bytes as usize));
+    let any_weight = Limits { weight: 0..=u32::MAX, ..LIMITS };
+    read_within(&bytes[..end], &any_weight) == Err(Refusal::BadFirmness)
+}
+
+/// The limit that a variant alters.
+const ALTERED: &[(&str, fn(&mut Limits))] = &[
+    ("steps-65", |limits| limits.steps = 65),
+    ("steps-63", |limits| limits.steps = 63),
+    ("edges-193", |limits| limits.edges = 193),
+    ("edges-191", |limits| limits.edges = 191),
+    ("gap-5", |limits| limits.gap = 1..=5),
+    ("gap-3", |limits| limits.gap = 1..=3),
+    ("gap-0", |limits| limits.gap = 0..=4),
+    ("weight-256", |limits| limits.weight = 0..=256),
+    ("weight-254", |limits| limits.weight = 0..=254),
+    ("name-17", |limits| limits.name_len = 1..=17),
+    ("name-empty", |limits| limits.name_len = 0..=16),
+    ("name-byte-20", |limits| limits.name_byte = 0x20..=0x7e),
+    ("name-byte-7f", |limits| limits.name_byte = 0x21..=0x7f),
+    ("kind-3", |limits| limits.kinds = 4),
+    ("tolerance-10000", |limits| limits.tolerance = 0..=10_000),
+    ("minutes-0", |limits| limits.minutes = 0..=240),
+    ("minutes-241", |limits| limits.minutes = 1..=241),
+    ("edition-2-refused", |limits| limits.edition = 1..=1),
+    ("edition-3", |limits| limits.edition = 1..=3),
+    ("edition-0", |limits| limits.edition = 0..=2),
+    ("firmness-2", |limits| limits.firmness = 0..=2),
+    ("firmness-0", |limits| limits.firmness = 0..=0),
+    ("edition-any", |limits| limits.edition = 0..=u32::MAX),
+    ("numbers-two-bytes", |limits| limits.number_bytes = 2),
+];
+
 fn limits() -> Limits {
     let mut limits = LIMITS;
-    if on("steps-65") {
-        limits.steps = 65;
-    } else if on("steps-63") {
-        limits.steps = 63;
-    } else if on("edges-193") {
-        limits.edges = 193;
-    } else if on("edges-191") {
-        limits.edges = 191;
-    } else if on("gap-5") {
-        limits.gap = 1..=5;
-    } else if on("gap-3") {
-        limits.gap = 1..=3;
-    } else if on("gap-0") {
-        limits.gap = 0..=4;
-    } else if on("weight-256") {
-        limits.weight = 0..=256;
-    } else if on("weight-254") {
-        limits.weight = 0..=254;
-    } else if on("name-17") {
-        limits.name_len = 1..=17;
-    } else if on("name-empty") {
-        limits.name_len = 0..=16;
-    } else if on("name-byte-20") {
-        limits.name_byte = 0x20..=0x7e;
-    } else if on("name-byte-7f") {
-        limits.name_byte = 0x21..=0x7f;
-    } else if on("kind-3") {
-        limits.kinds = 4;
-    } else if on("tolerance-10000") {
-        limits.tolerance = 0..=10_000;
-    } else if on("minutes-0") {
-        limits.minutes = 0..=240;
-    } else if on("minutes-241") {
-        limits.minutes = 1..=241;
-    } else if on("edition-any") {
-        limits.edition = 0..=u32::MAX;
-    } else if on("numbers-two-bytes") {
-        limits.number_bytes = 2;
+    for (_, alter) in ALTERED.iter().filter(|(fault, _)| on(fault)) {
+        alter(&mut limits);
     }
     limits
 }

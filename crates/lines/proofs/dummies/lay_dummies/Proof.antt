@@ -1,23 +1,26 @@
 -- The dummies of the edges from number i on are still to be written.
-use mathlib.Core.Path.{_≡_, ap}
-use mathlib.Core.List.{_++_, map}
-use Prim.Native.Nat.{ℕ, _+_, _-_, _≤_}
+use mathlib.Core.Path.{_≡_, ap, subst}
+use mathlib.Core.List.{List, _++_, map}
+use Prim.Native.Nat.{ℕ, _+_, _-_, _≤_, _<_}
 use native.Mathlib.Omega.{arith}
 use borrow.Author.Needs.{needs}
-use lib.ListN.{length, take, length-map}
+use lib.ListN.{length, getD, take, length-map}
 use denote.Ref.{now}
+use Rattle.graph.specs.declared.Edge.{Edge}
+use Rattle.graph.specs.Rows.{at, noEdge}
+use Rattle.graph.specs.Directed.{directedBy}
 use Rattle.points.specs.Points.{Dummy, dummies}
 use Rattle.buffers.proofs.WriteLaws.{Writing, writing-start, writing-room, writing-part, writing-long, writing-end}
 use Rattle.lines.specs.Printing.{ownersOf, dummyRows}
-use Rattle.lines.proofs.LayLaws.{still, later, rowsBetween, owners-turn, rows-turn, lay-end, between-length, owners-length}
+use Rattle.lines.proofs.LayLaws.{still, later, rowsBetween, laid-count, laid-edge, owners-turn, rows-turn, lay-end, between-length, owners-length}
 use Rattle.lines.proofs.dummies.lay_dummies.Statement.{statement}
 use Rattle.lines.proofs.dummies.lay_dummies.Tie as tie
 
 abbrev Inv-loop : tie.InvT-loop
-Inv-loop m ys owners₀ rows₀ edges d₀ i₀ owners rows d i = (i ≤ m) × Writing owners₀ 0 (ownersOf (dummies ys 0 (take m edges))) owners d (ownersOf (still ys edges m i)) × Writing rows₀ 0 (dummyRows (dummies ys 0 (take m edges))) rows d (dummyRows (still ys edges m i))
+Inv-loop m ys owners₀ rows₀ edges turned next₀ i₀ owners rows next i = (i ≤ m) × Writing owners₀ 0 (ownersOf (dummies ys 0 (directedBy turned (take m edges)))) owners next (ownersOf (still ys (directedBy turned (take m edges)) i)) × Writing rows₀ 0 (dummyRows (dummies ys 0 (directedBy turned (take m edges)))) rows next (dummyRows (still ys (directedBy turned (take m edges)) i))
 
 abbrev μ-loop : tie.MeasureT-loop
-μ-loop m ys owners₀ rows₀ edges d₀ i₀ owners rows d i = m - i
+μ-loop m ys owners₀ rows₀ edges turned next₀ i₀ owners rows next i = m - i
 
 abbrev S : Type 0
 S = tie.Start Inv-loop μ-loop
@@ -25,29 +28,63 @@ S = tie.Start Inv-loop μ-loop
 few : (c : S) → c .args .m ≤ length (c .args .t1)
 few c = omega (arith, c .pre .few, c .pre .long)
 
-abbrev start : tie.In-loop Inv-loop μ-loop → S
-start c = c .before .before .before .before .before
+-- the edges, as they are laid
+abbrev laid : S → List Edge
+laid c = directedBy (c .args .t2) (take (c .args .m) (c .args .t1))
 
--- a turn: the dummies of edge i are the next part
-owners-next : (c : tie.In-loop Inv-loop μ-loop) → let s = start c in let i = c .before .loop .i in
-    ownersOf (still (now (s .args .ys)) (s .args .t1) (s .args .m) i)
-    ≡ map (λ (_ : ℕ). i) (rowsBetween (now (s .args .ys)) (s .args .t1) (s .args .m) i) ++ ownersOf (later (now (s .args .ys)) (s .args .t1) (s .args .m) i)
-owners-next c = owners-turn (now (start c .args .ys)) (start c .args .t1) (start c .args .m) (c .before .loop .i) (few (start c)) (c .loop-test .taken)
+count : (c : S) → length (laid c) ≡ c .args .m
+count c = laid-count (c .args .t2) (c .args .t1) (c .args .m) (few c)
 
-rows-next : (c : tie.In-loop Inv-loop μ-loop) → let s = start c in let i = c .before .loop .i in
-    dummyRows (still (now (s .args .ys)) (s .args .t1) (s .args .m) i)
-    ≡ rowsBetween (now (s .args .ys)) (s .args .t1) (s .args .m) i ++ dummyRows (later (now (s .args .ys)) (s .args .t1) (s .args .m) i)
-rows-next c = rows-turn (now (start c .args .ys)) (start c .args .t1) (start c .args .m) (c .before .loop .i) (few (start c)) (c .loop-test .taken)
+-- ---- a turn, from where its edge is read and directed
+
+abbrev T : Type 0
+T = tie.After-direct-edge Inv-loop μ-loop
+
+abbrev start : T → S
+start c = c .before .before .before .before .before .before .before .before
+
+abbrev ys-of : T → List ℕ
+ys-of c = now (start c .args .ys)
+
+abbrev index : T → ℕ
+index c = c .before .before .before .before .loop .i
+
+abbrev edge : T → Edge
+edge c = c .direct-edge .result
+
+inside : (c : T) → index c < length (laid (start c))
+inside c = omega (arith, count (start c), c .before .before .before .loop-test .taken)
+
+edge-is : (c : T) → getD (laid (start c)) (index c) noEdge ≡ edge c
+edge-is c = laid-edge (start c .args .t2) (start c .args .t1) (start c .args .m) (few (start c)) (index c) (c .before .before .before .loop-test .taken) (c .direct-edge .ensures)
+
+from-in : (c : T) → edge c .from < length (ys-of c)
+from-in c = subst (λ (e : Edge). e .from < length (ys-of c)) (edge-is c) (start c .pre .from-in (index c) (c .before .before .before .loop-test .taken))
+
+to-in : (c : T) → edge c .to < length (ys-of c)
+to-in c = subst (λ (e : Edge). e .to < length (ys-of c)) (edge-is c) (start c .pre .to-in (index c) (c .before .before .before .loop-test .taken))
+
+down : (c : T) → at (ys-of c) (edge c .from) < at (ys-of c) (edge c .to)
+down c = subst (λ (e : Edge). at (ys-of c) (e .from) < at (ys-of c) (e .to)) (edge-is c) (start c .pre .down (index c) (c .before .before .before .loop-test .taken))
+
+-- the dummies of edge i are the next part
+owners-next : (c : T) → ownersOf (still (ys-of c) (laid (start c)) (index c)) ≡ map (λ (_ : ℕ). index c) (rowsBetween (ys-of c) (edge c)) ++ ownersOf (later (ys-of c) (laid (start c)) (index c))
+owners-next c = owners-turn (ys-of c) (laid (start c)) (index c) (inside c) (edge c) (edge-is c)
+
+rows-next : (c : T) → dummyRows (still (ys-of c) (laid (start c)) (index c)) ≡ rowsBetween (ys-of c) (edge c) ++ dummyRows (later (ys-of c) (laid (start c)) (index c))
+rows-next c = rows-turn (ys-of c) (laid (start c)) (index c) (inside c) (edge c) (edge-is c)
 
 -- and there is room for them
-owners-room : (c : tie.In-loop Inv-loop μ-loop) → c .before .loop .d + length (map (λ (_ : ℕ). c .before .loop .i) (rowsBetween (now (start c .args .ys)) (start c .args .t1) (start c .args .m) (c .before .loop .i))) ≤ length (c .before .loop .owners)
-owners-room c = writing-room (map (λ (_ : ℕ). c .before .loop .i) (rowsBetween (now (start c .args .ys)) (start c .args .t1) (start c .args .m) (c .before .loop .i))) (ownersOf (later (now (start c .args .ys)) (start c .args .t1) (start c .args .m) (c .before .loop .i))) (owners-next c) (c .before .loop .inv .1)
+owners-room : (c : T) → c .before .before .before .before .loop .next + (at (ys-of c) (edge c .to) - at (ys-of c) (edge c .from) - 1) ≤ length (c .before .before .before .before .loop .owners)
+owners-room c = omega (arith, owners-length (ys-of c) (edge c) (index c), writing-room (map (λ (_ : ℕ). index c) (rowsBetween (ys-of c) (edge c))) (ownersOf (later (ys-of c) (laid (start c)) (index c))) (owners-next c) (c .before .before .before .before .loop .inv .1))
 
-rows-room : (c : tie.In-loop Inv-loop μ-loop) → c .before .loop .d + length (rowsBetween (now (start c .args .ys)) (start c .args .t1) (start c .args .m) (c .before .loop .i)) ≤ length (c .before .loop .rows)
-rows-room c = writing-room (rowsBetween (now (start c .args .ys)) (start c .args .t1) (start c .args .m) (c .before .loop .i)) (dummyRows (later (now (start c .args .ys)) (start c .args .t1) (start c .args .m) (c .before .loop .i))) (rows-next c) (c .before .loop .inv .2)
+rows-room : (c : T) → c .before .before .before .before .loop .next + (at (ys-of c) (edge c .to) - at (ys-of c) (edge c .from) - 1) ≤ length (c .before .before .before .before .loop .rows)
+rows-room c = omega (arith, between-length (ys-of c) (edge c), writing-room (rowsBetween (ys-of c) (edge c)) (dummyRows (later (ys-of c) (laid (start c)) (index c))) (rows-next c) (c .before .before .before .before .loop .inv .2))
+
+-- ---- the needs
 
 loop-holds : tie.Need-loop-holds Inv-loop μ-loop
-loop-holds c = let s = c .before .before .before .args in let p = c .before .before .before .pre in let ds = dummies (now (s .ys)) 0 (take (s .m) (s .t1)) in (omega arith, writing-start _ _ _ (omega (arith, p .owners-room, length-map ds (λ (d : Dummy). d .edge))), writing-start _ _ _ (omega (arith, p .rows-room, length-map ds (λ (d : Dummy). d .row))))
+loop-holds c = let s = c .before .before .before in let ds = dummies (now (s .args .ys)) 0 (laid s) in (omega arith, writing-start _ _ _ (omega (arith, s .pre .owners-room, length-map ds (λ (d : Dummy). d .edge))), writing-start _ _ _ (omega (arith, s .pre .rows-room, length-map ds (λ (d : Dummy). d .row))))
 
 mul-e : tie.Need-mul-e Inv-loop μ-loop
 mul-e c = omega arith
@@ -55,23 +92,26 @@ mul-e c = omega arith
 array-copy-out-e : tie.Need-array-copy-out-e Inv-loop μ-loop
 array-copy-out-e c = omega (arith, c .before .before .before .before .before .pre .few, c .loop-test .taken)
 
+array-read-direct-edge : tie.Need-array-read-direct-edge Inv-loop μ-loop
+array-read-direct-edge c = omega (arith, c .before .before .before .before .before .before .before .pre .few, c .before .before .loop-test .taken)
+
+direct-edge-requires : tie.Need-direct-edge-requires Inv-loop μ-loop
+direct-edge-requires c κs = search needs
+
 mul-lay-edge : tie.Need-mul-lay-edge Inv-loop μ-loop
-mul-lay-edge c = let h = c .before .before .before .before .before .before .pre .from-in _ (c .before .loop-test .taken) in search needs
+mul-lay-edge c = let h = from-in c in search needs
 
 shared-slice-read-lay-edge : tie.Need-shared-slice-read-lay-edge Inv-loop μ-loop
-shared-slice-read-lay-edge c = c .before .before .before .before .before .before .before .pre .from-in _ (c .before .before .loop-test .taken)
+shared-slice-read-lay-edge c = from-in (c .before)
 
 mul-lay-edge-2 : tie.Need-mul-lay-edge-2 Inv-loop μ-loop
-mul-lay-edge-2 c = let h = c .before .before .before .before .before .before .before .pre .to-in _ (c .before .before .loop-test .taken) in search needs
+mul-lay-edge-2 c = let h = to-in (c .before) in search needs
 
 shared-slice-read-lay-edge-2 : tie.Need-shared-slice-read-lay-edge-2 Inv-loop μ-loop
-shared-slice-read-lay-edge-2 c = c .before .before .before .before .before .before .before .before .pre .to-in _ (c .before .before .before .loop-test .taken)
+shared-slice-read-lay-edge-2 c = to-in (c .before .before)
 
 lay-edge-requires : tie.Need-lay-edge-requires Inv-loop μ-loop
-lay-edge-requires c κs =
-    let after-before = c .before .before .before .before .before in
-    let start = after-before .before .before .before .before .before in
-    let l = after-before .before in let k = c .before .before .before .before .before in let s = start .args in (start .pre .down (l .loop .i) (k .loop-test .taken), (omega (arith, owners-length (now (s .ys)) (s .t1) (s .m) (l .loop .i), owners-room k), omega (arith, between-length (now (s .ys)) (s .t1) (s .m) (l .loop .i), rows-room k)))
+lay-edge-requires c κs = let t = c .before .before .before .before in (down t, (owners-room t, rows-room t))
 
 add-i : tie.Need-add-i Inv-loop μ-loop
 add-i c = search needs
@@ -81,9 +121,9 @@ loop-less c = search needs
 
 loop-again : tie.Need-loop-again Inv-loop μ-loop
 loop-again c =
-    let after-before = c .before .before .before .before .before .before .before .before .before in
-    let at-loop = after-before .before .before in
-    (omega arith, writing-part _ _ (owners-next (after-before .before)) (at-loop .loop .inv .1) (c .before .before .before .before .lay-edge .ensures .0), writing-part _ _ (rows-next (after-before .before)) (at-loop .loop .inv .2) (c .before .before .before .before .lay-edge .ensures .1))
+    let t = c .before .before .before .before .before .before .before .before .before in
+    let at-loop = t .before .before .before .before in
+    (omega arith, writing-part (map (λ (_ : ℕ). index t) (rowsBetween (ys-of t) (edge t))) (ownersOf (later (ys-of t) (laid (start t)) (index t))) (owners-next t) (at-loop .loop .inv .1) (c .before .before .before .before .lay-edge .ensures .0), writing-part (rowsBetween (ys-of t) (edge t)) (dummyRows (later (ys-of t) (laid (start t)) (index t))) (rows-next t) (at-loop .loop .inv .2) (c .before .before .before .before .lay-edge .ensures .1))
 
 same-length : tie.Need-same-length Inv-loop μ-loop
 same-length c = writing-long (c .before .loop .inv .1)
@@ -92,7 +132,7 @@ same-length-2 : tie.Need-same-length-2 Inv-loop μ-loop
 same-length-2 c = writing-long (c .before .loop .inv .2)
 
 returns : tie.Need-returns Inv-loop μ-loop
-returns c = let s = c .before .before .before .before .before in let e = lay-end (now (s .args .ys)) (s .args .t1) (s .args .m) (c .before .loop .i) (few s) (c .loop-test .left) in (writing-end (ap ownersOf e) (c .before .loop .inv .1), writing-end (ap dummyRows e) (c .before .loop .inv .2))
+returns c = let s = c .before .before .before .before .before in let e = lay-end (now (s .args .ys)) (laid s) (c .before .loop .i) (omega (arith, count s, c .loop-test .left)) in (writing-end (ap ownersOf e) (c .before .loop .inv .1), writing-end (ap dummyRows e) (c .before .loop .inv .2))
 
 pub lay-dummies-spec : {M : Type 1} → statement M
 lay-dummies-spec =
@@ -103,6 +143,8 @@ lay-dummies-spec =
     loop-holds
     mul-e
     array-copy-out-e
+    array-read-direct-edge
+    direct-edge-requires
     mul-lay-edge
     shared-slice-read-lay-edge
     mul-lay-edge-2

@@ -5,6 +5,7 @@ use Prim.Native.Nat.{_≤_}
 use native.Mathlib.Omega.{arith}
 use denote.Ref.{now}
 use lib.ListN.{length, take, replicate, length-map}
+use Rattle.graph.specs.Directed.{directedBy}
 use Rattle.points.specs.Limits.{maxPoints}
 use Rattle.points.specs.Points.{Dummy, dummies}
 use Rattle.ordering.specs.Charting.{Storable}
@@ -16,30 +17,31 @@ use Rattle.listing.proofs.page.print_chart.Statement.{statement}
 use Rattle.listing.proofs.page.print_chart.Tie as tie
 
 -- what the arrays hold
-open-of : (c : tie.Start) → Opened (now (c .args .bytes)) (c .args .table) (c .args .found)
-open-of c = opened (now (c .args .bytes)) (c .args .table) (c .args .found) (c .pre .0) (c .pre .1 .0) (c .pre .1 .1 .0)
+open-of : (c : tie.Start) → Opened (now (c .args .bytes)) (c .args .table) (c .args .turned) (c .args .found)
+open-of c =
+    opened (now (c .args .bytes)) (c .args .table) (c .args .turned) (c .args .found) (c .pre .0) (c .pre .1 .0) (c .pre .1 .1 .0) (c .pre .1 .1 .1 .0)
 
 storable-of : (c : tie.Start) → Storable (c .args .found)
-storable-of c = c .pre .1 .0 .handable .storable (c .pre .1 .1 .0)
+storable-of c = c .pre .1 .1 .0 .handable .storable (c .pre .1 .1 .1 .0)
 
 rows-long : (c : tie.Start) → c .args .table .n ≤ length (c .args .found .rows)
 rows-long c = omega (arith, open-of c .f-n, storable-of c .few-rows)
 
 -- the dummies, and that there is room for them
 abbrev dummies-of : tie.Start → List Dummy
-dummies-of c = dummies (take (c .args .table .n) (c .args .found .rows)) 0 (take (c .args .table .m) (c .args .table .edges))
+dummies-of c = dummies (take (c .args .table .n) (c .args .found .rows)) 0 (directedBy (c .args .turned) (take (c .args .table .m) (c .args .table .edges)))
 
-layable : (c : tie.Start) → Layable (c .args .table .edges) (c .args .table .m) (take (c .args .table .n) (c .args .found .rows)) (replicate maxPoints 0) (replicate maxPoints 0)
-layable c = page-layable (now (c .args .bytes)) (c .args .table) (c .args .found) (open-of c) (replicate maxPoints 0) (replicate maxPoints 0) (omega arith) (omega arith)
+layable : (c : tie.Start) → Layable (c .args .table .edges) (c .args .turned) (c .args .table .m) (take (c .args .table .n) (c .args .found .rows)) (replicate maxPoints 0) (replicate maxPoints 0)
+layable c = page-layable (now (c .args .bytes)) (c .args .table) (c .args .turned) (c .args .found) (open-of c) (replicate maxPoints 0) (replicate maxPoints 0) (omega arith) (omega arith)
 
 abbrev start : tie.After-lay-dummies → tie.Start
 start c = c .before .before .before .before .before .before .before .before .before .before
 
 -- laid, they are the first entries of their arrays
-owners-laid : (c : tie.After-lay-dummies) → (c .lay-dummies .result ≤ length (c .lay-dummies .last .1 .1 .1 .0)) × (take (c .lay-dummies .result) (c .lay-dummies .last .1 .1 .1 .0) ≡ ownersOf (dummies-of (start c)))
+owners-laid : (c : tie.After-lay-dummies) → (c .lay-dummies .result ≤ length (c .lay-dummies .last .1 .1 .1 .1 .0)) × (take (c .lay-dummies .result) (c .lay-dummies .last .1 .1 .1 .1 .0) ≡ ownersOf (dummies-of (start c)))
 owners-laid c = stored-front (replicate maxPoints 0) (ownersOf (dummies-of (start c))) _ _ (omega (arith, layable (start c) .owners-room, length-map (dummies-of (start c)) (λ (d : Dummy). d .edge))) (c .lay-dummies .ensures .0)
 
-rows-laid : (c : tie.After-lay-dummies) → (c .lay-dummies .result ≤ length (c .lay-dummies .last .1 .1 .1 .1 .0)) × (take (c .lay-dummies .result) (c .lay-dummies .last .1 .1 .1 .1 .0) ≡ dummyRows (dummies-of (start c)))
+rows-laid : (c : tie.After-lay-dummies) → (c .lay-dummies .result ≤ length (c .lay-dummies .last .1 .1 .1 .1 .1 .0)) × (take (c .lay-dummies .result) (c .lay-dummies .last .1 .1 .1 .1 .1 .0) ≡ dummyRows (dummies-of (start c)))
 rows-laid c = stored-front (replicate maxPoints 0) (dummyRows (dummies-of (start c))) _ _ (omega (arith, layable (start c) .rows-room, length-map (dummies-of (start c)) (λ (d : Dummy). d .row))) (c .lay-dummies .ensures .1)
 
 array-share-prefix-found-rows : tie.Need-array-share-prefix-found-rows
@@ -64,7 +66,7 @@ slice-aggregate-put-line-2 : tie.Need-slice-aggregate-put-line-2
 slice-aggregate-put-line-2 c = search needs
 
 put-line-requires : tie.Need-put-line-requires
-put-line-requires c κs = let s = c .before .before .before .before .before .before .before .before .before .before .before .before .before .before .before in page-head _ _ _ (open-of s) _ _ (owners-laid (c .before .before .before .before .before) .1) (rows-laid (c .before .before .before .before .before) .1) (now (s .args .page)) (s .pre .1 .1 .1)
+put-line-requires c κs = let s = c .before .before .before .before .before .before .before .before .before .before .before .before .before .before .before in page-head _ _ _ _ (open-of s) _ _ (owners-laid (c .before .before .before .before .before) .1) (rows-laid (c .before .before .before .before .before) .1) (now (s .args .page)) (s .pre .1 .1 .1 .1)
 
 array-share-prefix-owners : tie.Need-array-share-prefix-owners
 array-share-prefix-owners c = owners-laid (c .before .before .before .before .before .before .before .before) .0
@@ -85,13 +87,13 @@ slice-aggregate-put-rows-3 : tie.Need-slice-aggregate-put-rows-3
 slice-aggregate-put-rows-3 c = front-long _ _ (storable-of (c .before .before .before .before .before .before .before .before .before .before .before .before .before .before .before .before .before .before .before .before .before) .few-points)
 
 put-rows-requires : tie.Need-put-rows-requires
-put-rows-requires c κs = let s = c .before .before .before .before .before .before .before .before .before .before .before .before .before .before .before .before .before .before .before .before .before .before in let l = c .before .before .before .before .before .before .before .before .before .before .before .before in (page-sheet _ _ _ (open-of s) _ _ (owners-laid l .1) (rows-laid l .1), page-rows _ _ _ (open-of s) _ _ (owners-laid l .1) (rows-laid l .1) (now (s .args .page)) (s .pre .1 .1 .1) _ _ (c .before .before .before .before .before .before .put-line .ensures))
+put-rows-requires c κs = let s = c .before .before .before .before .before .before .before .before .before .before .before .before .before .before .before .before .before .before .before .before .before .before in let l = c .before .before .before .before .before .before .before .before .before .before .before .before in (page-sheet _ _ _ _ (open-of s) _ _ (owners-laid l .1) (rows-laid l .1), page-rows _ _ _ _ (open-of s) _ _ (owners-laid l .1) (rows-laid l .1) (now (s .args .page)) (s .pre .1 .1 .1 .1) _ _ (c .before .before .before .before .before .before .put-line .ensures))
 
 same-length : tie.Need-same-length
 same-length c = search needs
 
 returns : tie.Need-returns
-returns c = let s = c .before .before .before .before .before .before .before .before .before .before .before .before .before .before .before .before .before .before .before .before .before .before .before .before .before in page-stored _ _ _ (open-of s) _ _ (owners-laid (c .before .before .before .before .before .before .before .before .before .before .before .before .before .before .before) .1) (rows-laid (c .before .before .before .before .before .before .before .before .before .before .before .before .before .before .before) .1) (now (s .args .page)) (s .pre .1 .1 .1) _ _ (c .before .before .before .before .before .before .before .before .before .put-line .ensures) _ _ (c .before .before .put-rows .ensures)
+returns c = let s = c .before .before .before .before .before .before .before .before .before .before .before .before .before .before .before .before .before .before .before .before .before .before .before .before .before in page-stored _ _ _ _ (open-of s) _ _ (owners-laid (c .before .before .before .before .before .before .before .before .before .before .before .before .before .before .before) .1) (rows-laid (c .before .before .before .before .before .before .before .before .before .before .before .before .before .before .before) .1) (now (s .args .page)) (s .pre .1 .1 .1 .1) _ _ (c .before .before .before .before .before .before .before .before .before .put-line .ensures) _ _ (c .before .before .put-rows .ensures)
 
 pub print-chart-spec : {M : Type 1} → statement M
 print-chart-spec =

@@ -19,13 +19,13 @@ array-share-prefix-from : tie.Need-array-share-prefix-from
 array-share-prefix-from c = search needs
 
 slice-aggregate-count-points-2 : tie.Need-slice-aggregate-count-points-2
-slice-aggregate-count-points-2 c = part-from (c .before .before .before .before .split-ends .ensures) (c .before .before .before .before .before .pre .1 .0)
+slice-aggregate-count-points-2 c = part-from (c .before .before .before .before .split-ends .ensures) (c .before .before .before .before .before .pre .1 .0 .0)
 
 array-share-prefix-to : tie.Need-array-share-prefix-to
 array-share-prefix-to c = search needs
 
 slice-aggregate-count-points-3 : tie.Need-slice-aggregate-count-points-3
-slice-aggregate-count-points-3 c = part-to (c .before .before .before .before .before .split-ends .ensures) (c .before .before .before .before .before .before .pre .1 .0)
+slice-aggregate-count-points-3 c = part-to (c .before .before .before .before .before .split-ends .ensures) (c .before .before .before .before .before .before .pre .1 .0 .0)
 
 count-points-requires : tie.Need-count-points-requires
 count-points-requires c κs =
@@ -66,7 +66,7 @@ slice-aggregate-draw-points-2 : tie.Need-slice-aggregate-draw-points-2
 slice-aggregate-draw-points-2 c =
     let after-split-ends = c .before .before .before .before .before .before .before .before .before .before .before in
     let start = after-split-ends .before in
-    part-from (after-split-ends .split-ends .ensures) (start .pre .1 .0)
+    part-from (after-split-ends .split-ends .ensures) (start .pre .1 .0 .0)
 
 array-share-prefix-to-2 : tie.Need-array-share-prefix-to-2
 array-share-prefix-to-2 c = search needs
@@ -75,7 +75,7 @@ slice-aggregate-draw-points-3 : tie.Need-slice-aggregate-draw-points-3
 slice-aggregate-draw-points-3 c =
     let after-split-ends = c .before .before .before .before .before .before .before .before .before .before .before .before in
     let start = after-split-ends .before in
-    part-to (after-split-ends .split-ends .ensures) (start .pre .1 .0)
+    part-to (after-split-ends .split-ends .ensures) (start .pre .1 .0 .0)
 
 slice-aggregate-draw-points-4 : tie.Need-slice-aggregate-draw-points-4
 slice-aggregate-draw-points-4 c = search needs

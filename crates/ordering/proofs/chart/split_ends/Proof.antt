@@ -1,15 +1,19 @@
--- The first i edges stand in the arrays.
-use Prim.Native.Nat.{_-_, _≤_}
+-- The ends of the first i edges, each in its direction, stand in the arrays.
+use mathlib.Core.Path.{sym, _∙_}
+use Prim.Native.Nat.{_-_, _≤_, _<_}
 use native.Mathlib.Omega.{arith}
-use Rattle.ordering.proofs.SplitLaws.{Splitting, splitting-none, splitting-more, splitting-all}
+use lib.ListN.{length}
+use Rattle.graph.specs.Directed.{directedBy}
+use Rattle.graph.proofs.DirectedLaws.{directed-length, directed-get}
+use Rattle.ordering.proofs.SplitLaws.{Splitting, splitting-none, splitting-with, splitting-all}
 use Rattle.ordering.proofs.chart.split_ends.Statement.{statement}
 use Rattle.ordering.proofs.chart.split_ends.Tie as tie
 
 abbrev Inv-loop : tie.InvT-loop
-Inv-loop m edges from₀ to₀ i₀ from to i = Splitting edges i from to × (i ≤ m)
+Inv-loop m edges turned from₀ to₀ i₀ from to i = Splitting (directedBy turned edges) i from to × (i ≤ m)
 
 abbrev μ-loop : tie.MeasureT-loop
-μ-loop m edges from₀ to₀ i₀ from to i = m - i
+μ-loop m edges turned from₀ to₀ i₀ from to i = m - i
 
 loop-holds : tie.Need-loop-holds Inv-loop μ-loop
 loop-holds c = (splitting-none _, omega arith)
@@ -19,6 +23,12 @@ mul-e c = omega arith
 
 array-copy-out-e : tie.Need-array-copy-out-e Inv-loop μ-loop
 array-copy-out-e c = omega arith
+
+array-read-direct-edge : tie.Need-array-read-direct-edge Inv-loop μ-loop
+array-read-direct-edge c = omega arith
+
+direct-edge-requires : tie.Need-direct-edge-requires Inv-loop μ-loop
+direct-edge-requires c κs = tt
 
 mul-from : tie.Need-mul-from Inv-loop μ-loop
 mul-from c = omega arith
@@ -39,10 +49,18 @@ loop-less : tie.Need-loop-less Inv-loop μ-loop
 loop-less c = omega arith
 
 loop-again : tie.Need-loop-again Inv-loop μ-loop
-loop-again c = (splitting-more _ _ _ _ (c .before .before .loop .inv .0) (omega arith), omega arith)
+loop-again c =
+    let l = c .before .before .before .before in
+    let s = l .before in
+    let inside : l .loop .i < length (s .args .t1) = omega (arith, s .pre) in
+    let same = c .direct-edge .ensures ∙ sym (directed-get (s .args .t2) (s .args .t1) (l .loop .i) inside) in
+    (splitting-with _ _ _ _ (l .loop .inv .0) (omega (arith, s .pre)) _ same, omega arith)
 
 returns : tie.Need-returns Inv-loop μ-loop
-returns c = let s = c .before .before in splitting-all _ _ _ _ (c .before .loop .inv .0) (s .args .m) (omega arith) (s .pre .0) (s .pre .1)
+returns c =
+    let s = c .before .before in
+    splitting-all _ _ _ _ (c .before .loop .inv .0) (s .args .m) (omega arith) (s .pre .0 .0)
+    (directed-length (s .args .t2) (s .args .t1) ∙ s .pre .0 .1)
 
 pub split-ends-spec : {M : Type 1} → statement M
 split-ends-spec =
@@ -53,6 +71,8 @@ split-ends-spec =
     loop-holds
     mul-e
     array-copy-out-e
+    array-read-direct-edge
+    direct-edge-requires
     mul-from
     array-write-from
     mul-to

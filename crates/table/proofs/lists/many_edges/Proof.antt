@@ -4,19 +4,19 @@ use Prim.Native.Nat.{_-_}
 use native.Mathlib.Nat.{lt-of-lt-of-le}
 use lib.Dec.{lit<}
 use Rattle.table.specs.Limits.{maxEdges}
-use Rattle.table.specs.Table.{edgeAt}
-use Rattle.graph.specs.Rows.{noEdge}
-use Rattle.table.specs.Reads.{edgeRead}
+use Rattle.table.specs.Table.{tableEdgeAt}
+use Rattle.graph.specs.Directed.{noTableEdge}
+use Rattle.table.specs.Reads.{tableEdgeRead}
 use Rattle.buffers.proofs.IndexLaws.{next-fits, nearer, scaled}
 use Rattle.table.proofs.ListLaws.{Filling, filling-start, filling-next, filling-fault, filling-end}
 use Rattle.table.proofs.lists.many_edges.Statement.{statement}
 use Rattle.table.proofs.lists.many_edges.Tie as tie
 
 abbrev Inv-loop : tie.InvT-loop
-Inv-loop s n at m list₀ p₀ i₀ list p i = Filling (edgeAt s n) maxEdges noEdge m at i list p
+Inv-loop s edition n at m list₀ p₀ i₀ list p i = Filling (tableEdgeAt s edition n) maxEdges noTableEdge m at i list p
 
 abbrev μ-loop : tie.MeasureT-loop
-μ-loop s n at m list₀ p₀ i₀ list p i = m - i
+μ-loop s edition n at m list₀ p₀ i₀ list p i = m - i
 
 blank-edges-requires : tie.Need-blank-edges-requires Inv-loop μ-loop
 blank-edges-requires c κs = tt
@@ -24,8 +24,8 @@ blank-edges-requires c κs = tt
 loop-holds : tie.Need-loop-holds Inv-loop μ-loop
 loop-holds c = rw (c .blank-edges .ensures) (filling-start _ _ _ _ _)
 
-edge-at-requires : tie.Need-edge-at-requires Inv-loop μ-loop
-edge-at-requires c κs = tt
+table-edge-at-requires : tie.Need-table-edge-at-requires Inv-loop μ-loop
+table-edge-at-requires c κs = tt
 
 enum-known-f : tie.Need-enum-known-f Inv-loop μ-loop
 enum-known-f c = c .match .keys1
@@ -34,13 +34,13 @@ no-edges-requires : tie.Need-no-edges-requires Inv-loop μ-loop
 no-edges-requires c κs = tt
 
 returns : tie.Need-returns Inv-loop μ-loop
-returns c = rw (filling-fault _ _ _ _ _ _ _ _ (c .before .before .before .before .before .before .loop .inv) _ (c .before .before .before .before .before .loop-test .taken) (sym (c .before .before .before .before .edge-at .ensures) ∙ ap edgeRead (c .before .before .f .given .1))) (c .no-edges .ensures)
+returns c = rw (filling-fault _ _ _ _ _ _ _ _ (c .before .before .before .before .before .before .loop .inv) _ (c .before .before .before .before .before .loop-test .taken) (sym (c .before .before .before .before .table-edge-at .ensures) ∙ ap tableEdgeRead (c .before .before .f .given .1))) (c .no-edges .ensures)
 
 enum-known-edge : tie.Need-enum-known-edge Inv-loop μ-loop
 enum-known-edge c = c .match .keys2
 
 mul-list : tie.Need-mul-list Inv-loop μ-loop
-mul-list c = scaled _ _ maxEdges 0x20 (c .before .before .before .before .loop-test .taken) (c .before .before .before .before .before .before .before .before .pre) (lit< tt)
+mul-list c = scaled _ _ maxEdges 0x28 (c .before .before .before .before .loop-test .taken) (c .before .before .before .before .before .before .before .before .pre) (lit< tt)
 
 array-set-from-list : tie.Need-array-set-from-list Inv-loop μ-loop
 array-set-from-list c = lt-of-lt-of-le (c .before .before .before .before .loop-test .taken) (c .before .before .before .before .before .before .before .before .pre)
@@ -52,7 +52,7 @@ loop-less : tie.Need-loop-less Inv-loop μ-loop
 loop-less c = nearer _ _ (c .before .before .before .before .loop-test .taken)
 
 loop-again : tie.Need-loop-again Inv-loop μ-loop
-loop-again c = filling-next _ _ _ _ _ _ _ _ (c .before .before .before .before .before .loop .inv) _ _ (c .before .before .before .before .before .before .before .before .pre) (c .before .before .before .before .loop-test .taken) (sym (c .before .before .before .edge-at .ensures) ∙ ap edgeRead (c .before .edge .given .1))
+loop-again c = filling-next _ _ _ _ _ _ _ _ (c .before .before .before .before .before .loop .inv) _ _ (c .before .before .before .before .before .before .before .before .pre) (c .before .before .before .before .loop-test .taken) (sym (c .before .before .before .table-edge-at .ensures) ∙ ap tableEdgeRead (c .before .edge .given .1))
 
 returns-2 : tie.Need-returns-2 Inv-loop μ-loop
 returns-2 c = filling-end _ _ _ _ _ _ _ _ (c .before .loop .inv) (c .before .before .before .before .pre) (c .loop-test .left)
@@ -65,7 +65,7 @@ many-edges-spec =
     μ-loop
     blank-edges-requires
     loop-holds
-    edge-at-requires
+    table-edge-at-requires
     enum-known-f
     no-edges-requires
     returns

@@ -3,7 +3,7 @@
 use reference::random::Random;
 use reference::writer::{bytes_of, fields_of, write_table, Draft, Field};
 
-use crate::drafts::{any_gaps, any_weights, draft, dress};
+use crate::drafts::{any_gaps, any_weights, draft, dress, soften_some};
 use crate::judge::Judge;
 use crate::shapes;
 
@@ -21,16 +21,26 @@ pub const SHORT_TABLES: usize = {
 
 /// All strings of these letters up to a length, then again behind a good edition and count.
 pub fn all_short(judge: &mut Judge, _: &mut Random, group: usize) {
-    let mut code = group;
+    for head in [&[][..], &[1, 1], &[1, 2, 0, 1, 0x41, 0, 1, 0x42, 1]] {
+        judge.judge_table(&[head, &short_string(group)].concat());
+    }
+}
+
+/// All such strings for gap, weight and firmness; and for weight and firmness of an edge against a must edge.
+pub fn all_short_soft(judge: &mut Judge, _: &mut Random, group: usize) {
+    for edges in [&[1, 0, 1][..], &[2, 0, 1, 1, 1, 0, 1, 0, 2]] {
+        judge.judge_table(&[&[2, 2, 0, 1, 0x41, 0, 1, 0x42], edges, &short_string(group)].concat());
+    }
+}
+
+fn short_string(number: usize) -> Vec<u8> {
+    let mut code = number;
     let mut len = 0;
     while code >= LETTERS.len().pow(len) {
         code -= LETTERS.len().pow(len);
         len += 1;
     }
-    let tail: Vec<u8> = (0..len).map(|place| LETTERS[code / LETTERS.len().pow(place) % LETTERS.len()]).collect();
-    for head in [&[][..], &[1, 1], &[1, 2, 0, 1, 0x41, 0, 1, 0x42, 1]] {
-        judge.judge_table(&[head, &tail].concat());
-    }
+    (0..len).map(|place| LETTERS[code / LETTERS.len().pow(place) % LETTERS.len()]).collect()
 }
 
 fn small_draft(random: &mut Random) -> Draft {
@@ -38,6 +48,11 @@ fn small_draft(random: &mut Random) -> Draft {
     let (gaps, weights) = (any_gaps(random), any_weights(random));
     let edges = dress(random, &shape, gaps, weights);
     draft(random, shape.steps, edges)
+}
+
+fn small_soft_draft(random: &mut Random) -> Draft {
+    let draft = small_draft(random);
+    soften_some(random, draft)
 }
 
 fn with_long_forms(random: &mut Random, draft: &Draft) -> Vec<u8> {
@@ -50,8 +65,8 @@ fn with_long_forms(random: &mut Random, draft: &Draft) -> Vec<u8> {
     bytes_of(&fields)
 }
 
-fn some_table(random: &mut Random) -> Vec<u8> {
-    let draft = small_draft(random);
+fn some_table(random: &mut Random, make: fn(&mut Random) -> Draft) -> Vec<u8> {
+    let draft = make(random);
     if random.one_in(3) {
         with_long_forms(random, &draft)
     } else {
@@ -60,14 +75,21 @@ fn some_table(random: &mut Random) -> Vec<u8> {
 }
 
 pub fn cut_everywhere(judge: &mut Judge, random: &mut Random, _: usize) {
-    let bytes = some_table(random);
+    cut(judge, &some_table(random, small_draft));
+}
+
+pub fn cut_soft(judge: &mut Judge, random: &mut Random, _: usize) {
+    cut(judge, &some_table(random, small_soft_draft));
+}
+
+fn cut(judge: &mut Judge, bytes: &[u8]) {
     for len in 0..=bytes.len() {
         judge.judge_table(&bytes[..len]);
     }
 }
 
 pub fn spare(judge: &mut Judge, random: &mut Random, _: usize) {
-    let mut bytes = some_table(random);
+    let mut bytes = some_table(random, small_draft);
     for _ in 0..random.between(1, 3) {
         bytes.push(random.pick(&[0, 1, 0x41, 0x80, 0xff]));
         judge.judge_table(&bytes);
@@ -80,7 +102,16 @@ pub fn long_forms(judge: &mut Judge, random: &mut Random, _: usize) {
 }
 
 pub fn mutated(judge: &mut Judge, random: &mut Random, _: usize) {
-    let mut bytes = some_table(random);
+    let bytes = some_table(random, small_draft);
+    mutate(judge, random, bytes);
+}
+
+pub fn mutated_soft(judge: &mut Judge, random: &mut Random, _: usize) {
+    let bytes = some_table(random, small_soft_draft);
+    mutate(judge, random, bytes);
+}
+
+fn mutate(judge: &mut Judge, random: &mut Random, mut bytes: Vec<u8>) {
     for _ in 0..random.between(1, 4) {
         let at = random.below(bytes.len());
         match random.below(5) {
@@ -100,7 +131,7 @@ pub fn random_bytes(judge: &mut Judge, random: &mut Random, _: usize) {
     let mut bytes: Vec<u8> =
         (0..len).map(|_| if letters { random.pick(&LETTERS) } else { random.next() as u8 }).collect();
     if random.one_in(2) && len > 2 {
-        bytes[0] = 1;
+        bytes[0] = random.pick(&[1, 2]);
         bytes[1] %= 4;
     }
     judge.judge_table(&bytes);
@@ -108,17 +139,30 @@ pub fn random_bytes(judge: &mut Judge, random: &mut Random, _: usize) {
 
 /// Longer than any accepted table, and than the program looks at.
 pub fn long_input(judge: &mut Judge, random: &mut Random, group: usize) {
-    let mut bytes = if group % 2 == 0 { some_table(random) } else { longest_table(random) };
-    let len = random.pick(&[3913, 3914, 8191, 8192, 8193, 10_000, 20_000]).max(bytes.len());
-    let filling = random.pick(&[0, 1, 0x41, 0x80]);
-    judge.judge_table(&bytes);
-    bytes.resize(len, filling);
-    judge.judge_table(&bytes);
-    judge.compare_listing(&bytes);
+    let bytes = if group % 2 == 0 { some_table(random, small_draft) } else { longest_table(random, false) };
+    lengthen(judge, random, bytes);
 }
 
+pub fn long_soft_input(judge: &mut Judge, random: &mut Random, group: usize) {
+    let bytes = if group % 3 == 0 { some_table(random, small_soft_draft) } else { longest_table(random, true) };
+    lengthen(judge, random, bytes);
+}
+
+fn lengthen(judge: &mut Judge, random: &mut Random, mut bytes: Vec<u8>) {
+    let len = random.pick(&[3913, 3914, 4489, 4490, 8191, 8192, 8193, 10_000, 20_000]);
+    let filling = random.pick(&[0, 1, 0x41, 0x80]);
+    for len in [bytes.len(), bytes.len() + 1, len.max(bytes.len() + 1)] {
+        bytes.resize(len, filling);
+        judge.judge_table(&bytes);
+        judge.compare_listing(&bytes);
+    }
+}
+
+/// Bytes of the longest table, by edition.
+const LONGEST_TABLES: [usize; 2] = [3913, 4489];
+
 /// Every count at its limit and every number in its longest form.
-fn longest_table(random: &mut Random) -> Vec<u8> {
+fn longest_table(random: &mut Random, soft: bool) -> Vec<u8> {
     let shape = shapes::full(random);
     let (gaps, weights) = (any_gaps(random), any_weights(random));
     let edges = dress(random, &shape, gaps, weights);
@@ -127,11 +171,16 @@ fn longest_table(random: &mut Random) -> Vec<u8> {
         *kind = reference::table::Kind::Adjustment { tolerance: 9999 };
         name.resize(16, b'n');
     }
+    if soft {
+        draft = soften_some(random, draft);
+    }
     let mut fields = fields_of(&draft);
     for field in &mut fields {
         if let Field::Number { width, .. } = field {
             *width = 3;
         }
     }
-    bytes_of(&fields)
+    let bytes = bytes_of(&fields);
+    assert_eq!(bytes.len(), LONGEST_TABLES[usize::from(soft)]);
+    bytes
 }

@@ -88,24 +88,33 @@ pub fn zero_weights(judge: &mut Judge, random: &mut Random, _: usize) {
 }
 
 const TINY_STEPS: usize = 3;
-/// Ends (ordered, different), gap 1 or 2, weight 0 or 1.
+/// Ends (ordered, different), and four choices of what else an edge has: here gap 1 or 2 and weight 0 or 1.
 const TINY_EDGES: usize = TINY_STEPS * (TINY_STEPS - 1) * 4;
 pub const TINY_GRAPHS: usize = 1 + TINY_EDGES + TINY_EDGES.pow(2) + TINY_EDGES.pow(3);
 
-/// All lists of up to three edges on three steps, those with loops too.
-pub fn all_tiny(judge: &mut Judge, _: &mut Random, group: usize) {
+/// The codes of the edges of a list, of all lists of up to three edges on three steps.
+pub fn tiny_codes(group: usize) -> Vec<usize> {
     let mut code = group;
     let mut count = 0;
     while code >= TINY_EDGES.pow(count) {
         code -= TINY_EDGES.pow(count);
         count += 1;
     }
-    let edges = (0..count).map(|place| tiny_edge(code / TINY_EDGES.pow(place) % TINY_EDGES)).collect();
-    let steps = (0..TINY_STEPS).map(|step| (Kind::Check, vec![b'a' + step as u8])).collect();
-    judge.judge_table(&write_table(&Draft { steps, edges }));
+    (0..count).map(|place| code / TINY_EDGES.pow(place) % TINY_EDGES).collect()
 }
 
-fn tiny_edge(code: usize) -> Edge {
+pub fn tiny_draft(edges: Vec<Edge>, firmness: Option<Vec<u32>>) -> Draft {
+    let steps = (0..TINY_STEPS).map(|step| (Kind::Check, vec![b'a' + step as u8])).collect();
+    Draft { steps, edges, firmness }
+}
+
+/// All such lists, those with loops too.
+pub fn all_tiny(judge: &mut Judge, _: &mut Random, group: usize) {
+    let edges = tiny_codes(group).into_iter().map(tiny_edge).collect();
+    judge.judge_table(&write_table(&tiny_draft(edges, None)));
+}
+
+pub fn tiny_edge(code: usize) -> Edge {
     let from = code / 4 % TINY_STEPS;
     let to = (from + 1 + code / 4 / TINY_STEPS) % TINY_STEPS;
     Edge { from, to, gap: 1 + (code & 1) as u32, weight: (code >> 1 & 1) as u32 }

@@ -9,8 +9,13 @@ use crate::judge::Judge;
 const SAMPLE: &[u8] = b"\x01\x04\x02\x1e\x04warm\x00\x04lock\x00\x05sweep\x01\x32\x05level\x04\
 \x00\x01\x01\x01\x01\x02\x02\x03\x00\x03\x01\x01\x03\x02\x01\x05";
 
+/// The sample in edition 2, with soft edges along its must edges and against them.
+const TURNED: &[u8] = b"\x02\x04\x02\x1e\x04warm\x00\x04lock\x00\x05sweep\x01\x32\x05level\x06\
+\x00\x01\x01\x01\x00\x01\x02\x02\x03\x00\x02\x00\x04\x01\x01\
+\x00\x03\x01\x01\x00\x03\x02\x01\x05\x00\x01\x03\x03\x02\x01";
+
 pub fn stated_cases(judge: &mut Judge, _: &mut Random, _: usize) {
-    let cases: [&[u8]; 16] = [
+    let cases: [&[u8]; 23] = [
         SAMPLE,
         &[1, 0, 0],
         &[],
@@ -27,6 +32,13 @@ pub fn stated_cases(judge: &mut Judge, _: &mut Random, _: usize) {
         &[0x83, 0x80, 0],
         &[1, 0, 1, 0],
         &[1, 1, 0, 1, 0x41, 1, 1],
+        &[0],
+        &[3],
+        &[2, 0, 0],
+        TURNED,
+        &TURNED[..TURNED.len() - 1],
+        &[2, 2, 0, 1, 0x41, 0, 1, 0x42, 1, 0, 1, 1, 1, 2],
+        &[2, 2, 0, 1, 0x41, 0, 1, 0x42, 1, 0, 1, 1, 0x80, 2, 2],
     ];
     for bytes in cases {
         judge.judge_table(bytes);
@@ -38,7 +50,13 @@ pub fn stated_cases(judge: &mut Judge, _: &mut Random, _: usize) {
 fn chain(steps: usize, kind: Kind, name: &[u8], edges: usize, gap: u32, weight: u32) -> Draft {
     let links = steps.max(2) - 1;
     let edge = |from| Edge { from, to: from + 1, gap, weight };
-    Draft { steps: vec![(kind, name.to_vec()); steps], edges: (0..edges).map(|index| edge(index % links)).collect() }
+    let edges = (0..edges).map(|index| edge(index % links)).collect();
+    Draft { steps: vec![(kind, name.to_vec()); steps], edges, firmness: None }
+}
+
+/// The chain in edition 2.
+fn soft_chain(steps: usize, edges: usize, weight: u32, firmness: u32) -> Draft {
+    Draft { firmness: Some(vec![firmness; edges]), ..chain(steps, Kind::Check, b"f", edges, 1, weight) }
 }
 
 /// Every limit met and passed, each table in short and long forms; then all small values of the first fields.
@@ -52,6 +70,28 @@ pub fn field_limits(judge: &mut Judge, _: &mut Random, _: usize) {
             fields[place] = short(value);
             judge.judge_table(&bytes_of(&fields));
         }
+    }
+}
+
+/// Firmness met and passed at every edge and at the last, behind good and bad weights; counts in edition 2; and every
+/// small edition before edges of five numbers.
+pub fn soft_limits(judge: &mut Judge, _: &mut Random, _: usize) {
+    for firmness in [0, 1, 2, 3, 4, 127, 128, 129, 255, 256, 257, 16_383, 16_384, 16_385, 65_536, 65_537, 2_097_151] {
+        for (edges, weight) in [(1, 1), (3, 255), (3, 256), (192, 0)] {
+            let mut draft = soft_chain(4, edges, weight, 1);
+            *draft.firmness.as_mut().unwrap().last_mut().unwrap() = firmness;
+            judge_forms(judge, &draft);
+            judge_forms(judge, &soft_chain(4, edges, weight, firmness));
+        }
+    }
+    for edges in [0, 1, 191, 192, 193, 194, 255, 256, 257] {
+        judge_forms(judge, &soft_chain(64, edges, 255, 0));
+        judge_forms(judge, &soft_chain(2, edges, 0, 1));
+    }
+    for (value, width) in (0..300).flat_map(|value| (1..=4).map(move |width| (value, width))) {
+        let mut fields = fields_of(&soft_chain(2, 1, 1, 1));
+        fields[0] = Field::Number { value, width };
+        judge.judge_table(&bytes_of(&fields));
     }
 }
 

@@ -2,8 +2,9 @@
 
 use reference::points::MAX_POINTS;
 use reference::random::Random;
-use reference::table::Edge;
-use reference::writer::write_table;
+use reference::soft::turn;
+use reference::table::{Edge, TableEdge};
+use reference::writer::{write_table, Draft};
 
 use crate::drafts::draft;
 use crate::judge::Judge;
@@ -13,19 +14,38 @@ use crate::shapes::{EDGES, STEPS};
 pub fn near_limit(judge: &mut Judge, random: &mut Random, group: usize) {
     let target =
         random.pick(&[MAX_POINTS, MAX_POINTS, MAX_POINTS + 1, MAX_POINTS + 1, MAX_POINTS - 1, MAX_POINTS + 30]);
-    let (steps, edges) = loop {
-        if let Some(found) = try_chart(random, target) {
-            break found;
-        }
-    };
-    let bytes = write_table(&draft(random, steps, edges));
+    let (steps, edges) = find_chart(random, target);
+    let edges = edges.iter().map(|edge| edge.edge).collect();
+    judge_near(judge, group, &draft(random, steps, edges));
+}
+
+/// Edges that pass a step are soft here, and half of them point back: the chain's must edges turn these.
+pub fn soft_near_limit(judge: &mut Judge, random: &mut Random, group: usize) {
+    let target = random.pick(&[MAX_POINTS, MAX_POINTS + 1]);
+    let (steps, edges) = find_chart(random, target);
+    let firmness = edges.iter().map(|edge| u32::from(edge.soft)).collect();
+    let laid = |edge: &TableEdge| if edge.soft && random.one_in(2) { turn(edge.edge) } else { edge.edge };
+    let edges = edges.iter().map(laid).collect();
+    judge_near(judge, group, &Draft { firmness: Some(firmness), ..draft(random, steps, edges) });
+}
+
+fn judge_near(judge: &mut Judge, group: usize, draft: &Draft) {
+    let bytes = write_table(draft);
     judge.judge_table(&bytes);
     if group % 16 == 0 {
         judge.judge_buffers(&bytes, &[-10_000, -1, 0, 1]);
     }
 }
 
-fn try_chart(random: &mut Random, target: usize) -> Option<(usize, Vec<Edge>)> {
+fn find_chart(random: &mut Random, target: usize) -> (usize, Vec<TableEdge>) {
+    loop {
+        if let Some(found) = try_chart(random, target) {
+            return found;
+        }
+    }
+}
+
+fn try_chart(random: &mut Random, target: usize) -> Option<(usize, Vec<TableEdge>)> {
     let steps = random.between(8, STEPS);
     let links = random.between(6, steps - 1);
     let most = random.pick(&[1, 1, 2, 4]);
@@ -53,15 +73,17 @@ fn try_chart(random: &mut Random, target: usize) -> Option<(usize, Vec<Edge>)> {
     (left == 0).then(|| (steps, number_edges(random, steps, &row, &ends)))
 }
 
-/// Chain edges keep the chain's gap; any gap that fits will do for the others.
-fn number_edges(random: &mut Random, steps: usize, row: &[usize], ends: &[(usize, usize)]) -> Vec<Edge> {
+/// Chain edges keep the chain's gap; any gap that fits will do for the others, which may be soft too.
+fn number_edges(random: &mut Random, steps: usize, row: &[usize], ends: &[(usize, usize)]) -> Vec<TableEdge> {
     let mut number: Vec<usize> = (0..steps).collect();
     random.shuffle(&mut number);
     let mut edges = Vec::new();
     for &(low, high) in ends {
         let length = row[high] - row[low];
-        let gap = if high == low + 1 { length } else { random.between(1, length.min(4)) } as u32;
-        edges.push(Edge { from: number[low], to: number[high], gap, weight: random.below(256) as u32 });
+        let soft = high > low + 1;
+        let gap = if soft { random.between(1, length.min(4)) } else { length } as u32;
+        let edge = Edge { from: number[low], to: number[high], gap, weight: random.below(256) as u32 };
+        edges.push(TableEdge { edge, soft });
     }
     if random.one_in(2) {
         random.shuffle(&mut edges);

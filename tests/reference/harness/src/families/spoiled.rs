@@ -4,7 +4,7 @@ use reference::random::Random;
 use reference::table::Kind;
 use reference::writer::{bytes_of, fields_of, Draft, Field};
 
-use crate::drafts::{any_kind, any_name, any_weights, dress, Gaps};
+use crate::drafts::{any_kind, any_name, any_weights, dress, soften_some, Gaps};
 use crate::judge::Judge;
 use crate::shapes;
 
@@ -15,7 +15,7 @@ const VALUES: [u32; 29] = [
 ];
 const BYTES: [u8; 8] = [0, 0x20, 0x21, 0x3d, 0x7e, 0x7f, 0x80, 0xff];
 
-fn small_fields(random: &mut Random) -> Vec<Field> {
+fn small_draft(random: &mut Random) -> Draft {
     let shape = shapes::tiny(random);
     let weights = any_weights(random);
     let edges = dress(random, &shape, Gaps::Mixed, weights);
@@ -23,14 +23,28 @@ fn small_fields(random: &mut Random) -> Vec<Field> {
     for (_, name) in &mut steps {
         name.truncate(3);
     }
-    fields_of(&Draft { steps, edges })
+    Draft { steps, edges, firmness: None }
+}
+
+fn small_soft_draft(random: &mut Random) -> Draft {
+    let draft = small_draft(random);
+    soften_some(random, draft)
+}
+
+pub fn each_field(judge: &mut Judge, random: &mut Random, _: usize) {
+    let good = fields_of(&small_draft(random));
+    spoil_each(judge, random, &good);
+}
+
+pub fn each_soft_field(judge: &mut Judge, random: &mut Random, _: usize) {
+    let good = fields_of(&small_soft_draft(random));
+    spoil_each(judge, random, &good);
 }
 
 /// Each field, each value at its edges, each width, the high bit left set, and the bytes cut inside it.
-pub fn each_field(judge: &mut Judge, random: &mut Random, _: usize) {
-    let good = small_fields(random);
+fn spoil_each(judge: &mut Judge, random: &mut Random, good: &[Field]) {
     for at in 0..good.len() {
-        let mut fields = good.clone();
+        let mut fields = good.to_vec();
         match good[at] {
             Field::Byte(_) => {
                 for byte in BYTES {
@@ -57,7 +71,16 @@ pub fn each_field(judge: &mut Judge, random: &mut Random, _: usize) {
 }
 
 pub fn two_fields(judge: &mut Judge, random: &mut Random, _: usize) {
-    let mut fields = small_fields(random);
+    let fields = fields_of(&small_draft(random));
+    spoil_two(judge, random, fields);
+}
+
+pub fn two_soft_fields(judge: &mut Judge, random: &mut Random, _: usize) {
+    let fields = fields_of(&small_soft_draft(random));
+    spoil_two(judge, random, fields);
+}
+
+fn spoil_two(judge: &mut Judge, random: &mut Random, mut fields: Vec<Field>) {
     for _ in 0..2 {
         let at = random.below(fields.len());
         fields[at] = match fields[at] {

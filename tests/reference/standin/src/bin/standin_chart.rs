@@ -40,6 +40,12 @@ fn spoil(input: &[u8]) -> Vec<u8> {
             *edge = edge.map(|_| point);
         }
     }
+    if on("print-caret-kept") {
+        chart.turned = table.edges.iter().map(|edge| edge.soft).collect();
+    }
+    if on("print-bar-turned") {
+        chart.turned.fill(false);
+    }
     if on("print-last-crossings") {
         chart.crossings = last_crossings(&chart.layout);
     }
