@@ -10,7 +10,7 @@ use lib.ListN.{length, getD, length-map, List·getD-map}
 use Rattle.graph.specs.declared.Edge.{Edge}
 use Rattle.graph.specs.declared.TableEdge.{TableEdge}
 use Rattle.graph.specs.Rows.{noEdge, Within}
-use Rattle.graph.specs.Directed.{noTableEdge, plainEdges, turn, directedBy}
+use Rattle.graph.specs.Directed.{ownEdge, noTableEdge, plainEdges, turn, directedBy}
 use Rattle.acyclic.specs.Loops.{Walk, LoopFree, mark, sweep, sweeps, reached, lowestOnLoop}
 use Rattle.acyclic.specs.Oriented.{OrientedEdge, noOrientedEdge, orient, mustOf, anySoft, leads, turns, standAfter, orientedFrom, oriented, orientedEdges, turnedEdges, keptOf}
 use Rattle.acyclic.proofs.LoopLaws.{free-iff}
@@ -21,23 +21,23 @@ use Rattle.acyclic.proofs.StandingLaws.{Turn, must, kept, turned, turn-
 
 -- the ends of every edge of a table are two different nodes, of which there are n
 pub record Joins (n : ℕ) (e : TableEdge) : Type 0 where
-  pub from-in : e .edge .from < n
-  pub to-in : e .edge .to < n
-  pub apart : e .edge .from ≡ e .edge .to → ⊥
+  pub from-in : e .from < n
+  pub to-in : e .to < n
+  pub apart : e .from ≡ e .to → ⊥
 
 abbrev pub Joining : ℕ → List TableEdge → Type 0
 Joining n edges = (i : ℕ) → i < length edges → Joins n (getD edges i noTableEdge)
 
 -- whatever holds of the must edges of a table
 pub must-each : (P : Edge → Type 0) (edges : List TableEdge)
-    → ((i : ℕ) → i < length edges → getD edges i noTableEdge .soft ≡ false → P (getD edges i noTableEdge .edge))
+    → ((i : ℕ) → i < length edges → getD edges i noTableEdge .soft ≡ false → P (ownEdge (getD edges i noTableEdge)))
     → (j : ℕ) → j < length (mustOf edges) → P (getD (mustOf edges) j noEdge)
 unfolding mustOf
 must-each P [] p = λ j h. absurd (not-suc-le-zero h)
 must-each P (e ∷ edges) p = go (e .soft) refl (must-each P edges (λ i h. p (suc i) (suc-le-suc h)))
   where
     go : (b : Bool) → e .soft ≡ b → ((j : ℕ) → j < length (mustOf edges) → P (getD (mustOf edges) j noEdge))
-        → (j : ℕ) → j < length (cond b (mustOf edges) (e .edge ∷ mustOf edges)) → P (getD (cond b (mustOf edges) (e .edge ∷ mustOf edges)) j noEdge)
+        → (j : ℕ) → j < length (cond b (mustOf edges) (ownEdge e ∷ mustOf edges)) → P (getD (cond b (mustOf edges) (ownEdge e ∷ mustOf edges)) j noEdge)
     go true f r j h = r j h
     go false f r zero h = p zero (zero-lt-suc (length edges)) f
     go false f r (suc j) h = r j (le-of-suc-le-suc h)
@@ -59,8 +59,8 @@ turn-sane : (n : ℕ) (stand : List Edge) (e : TableEdge) → Joins n e → Sane
 turn-sane n stand e j s (must f) = s
 turn-sane n stand e j s (kept f g) =
     record {
-      free = free-more (e .edge) stand (j .apart) (leads-false n stand _ _ (s .within) g) (s .free);
-      within = within-cons (e .edge) stand (j .from-in) (j .to-in) (s .within);
+      free = free-more (ownEdge e) stand (j .apart) (leads-false n stand _ _ (s .within) g) (s .free);
+      within = within-cons (ownEdge e) stand (j .from-in) (j .to-in) (s .within);
     }
 turn-sane n stand e j s (turned f g) = s
 
@@ -83,19 +83,19 @@ oriented-free n edges j f =
 -- Each edge that was turned has a walk over those that were kept from its own head to its own tail: pointing its own way it would close
 -- a loop. When its turn came such a walk led over the edges that stood then; they all stand in the end, and those are the kept ones.
 pub turned-closes : (n : ℕ) (edges : List TableEdge) (i : ℕ) → i < length edges → getD (oriented n edges) i noOrientedEdge .turned ≡ true
-    → Walk (keptOf (oriented n edges)) (getD edges i noTableEdge .edge .to) (getD edges i noTableEdge .edge .from)
+    → Walk (keptOf (oriented n edges)) (getD edges i noTableEdge .to) (getD edges i noTableEdge .from)
 unfolding oriented
 turned-closes n edges i h t = walk-replace (stand-kept n edges) (turned-walk n (mustOf edges) edges i h t)
 
 pub turned-loop : (n : ℕ) (edges : List TableEdge) (i : ℕ) → i < length edges → getD (oriented n edges) i noOrientedEdge .turned ≡ true
-    → Walk (getD edges i noTableEdge .edge ∷ keptOf (oriented n edges)) (getD edges i noTableEdge .edge .from) (getD edges i noTableEdge .edge .from)
+    → Walk (ownEdge (getD edges i noTableEdge) ∷ keptOf (oriented n edges)) (getD edges i noTableEdge .from) (getD edges i noTableEdge .from)
 turned-loop n edges i h t = walk-join (walk-here _ _) (walk-replace (runs-later _ _) (turned-closes n edges i h t))
 
 -- ---- each edge in the direction that it gets
 
 -- every edge is kept or turned, at its own number: no gap and no weight changes
 edge-from : (n : ℕ) (stand : List Edge) (edges : List TableEdge) (i : ℕ) → i < length edges
-    → getD (orientedFrom n stand edges) i noOrientedEdge ≡ orient (getD (orientedFrom n stand edges) i noOrientedEdge .turned) (getD edges i noTableEdge .edge)
+    → getD (orientedFrom n stand edges) i noOrientedEdge ≡ orient (getD (orientedFrom n stand edges) i noOrientedEdge .turned) (ownEdge (getD edges i noTableEdge))
 unfolding orientedFrom
 edge-from n stand [] i h = absurd (not-suc-le-zero h)
 edge-from n stand (e ∷ edges) zero h = refl
@@ -125,7 +125,7 @@ module _ (n : ℕ) (edges : List TableEdge) where
 
   module _ (i : ℕ) (h : i < length edges) where
     abbrev own : Edge
-    own = getD edges i noTableEdge .edge
+    own = ownEdge (getD edges i noTableEdge)
 
     abbrev given : OrientedEdge
     given = getD (oriented n edges) i noOrientedEdge
@@ -171,7 +171,7 @@ oriented-within n edges j i h =
     inside : i < length edges
     inside = omega (arith, length-map (oriented n edges) (λ (e : OrientedEdge). e .edge), oriented-length n edges)
 
-    go : (b : Bool) → (orient b (getD edges i noTableEdge .edge) .edge .from < n) × (orient b (getD edges i noTableEdge .edge) .edge .to < n)
+    go : (b : Bool) → (orient b (ownEdge (getD edges i noTableEdge)) .edge .from < n) × (orient b (ownEdge (getD edges i noTableEdge)) .edge .to < n)
     go true = (j i inside .to-in, j i inside .from-in)
     go false = (j i inside .from-in, j i inside .to-in)
 
@@ -185,7 +185,7 @@ oriented-none n edges j e =
 -- ---- no soft edges
 
 firm-from : (n : ℕ) (stand : List Edge) (edges : List TableEdge) → ((i : ℕ) → i < length edges → getD edges i noTableEdge .soft ≡ false)
-    → orientedFrom n stand edges ≡ map (λ e. orient false (e .edge)) edges
+    → orientedFrom n stand edges ≡ map (λ e. orient false (ownEdge e)) edges
 unfolding orientedFrom
 firm-from n stand [] firm = refl
 firm-from n stand (e ∷ edges) firm =
@@ -194,15 +194,15 @@ firm-from n stand (e ∷ edges) firm =
     first : e .soft ≡ false
     first = firm zero (zero-lt-suc (length edges))
 
-    go : {b : Bool} {next : List Edge} → Turn n stand e b next → orientedFrom n next edges ≡ map (λ d. orient false (d .edge)) edges
-        → orient b (e .edge) ∷ orientedFrom n next edges ≡ orient false (e .edge) ∷ map (λ d. orient false (d .edge)) edges
-    go (must f) ih = ap (λ (l : List OrientedEdge). orient false (e .edge) ∷ l) ih
+    go : {b : Bool} {next : List Edge} → Turn n stand e b next → orientedFrom n next edges ≡ map (λ d. orient false (ownEdge d)) edges
+        → orient b (ownEdge e) ∷ orientedFrom n next edges ≡ orient false (ownEdge e) ∷ map (λ d. orient false (ownEdge d)) edges
+    go (must f) ih = ap (λ (l : List OrientedEdge). orient false (ownEdge e) ∷ l) ih
     go (kept f g) ih = absurd (true≢false (sym f ∙ first))
     go (turned f g) ih = absurd (true≢false (sym f ∙ first))
 
 -- without soft edges every edge stays as it is
 pub oriented-firm : (n : ℕ) (edges : List TableEdge) → ((i : ℕ) → i < length edges → getD edges i noTableEdge .soft ≡ false)
-    → oriented n edges ≡ map (λ e. orient false (e .edge)) edges
+    → oriented n edges ≡ map (λ e. orient false (ownEdge e)) edges
 unfolding oriented
 oriented-firm n edges firm = firm-from n (mustOf edges) edges firm
 
@@ -222,14 +222,14 @@ module _ (n : ℕ) (edges : List TableEdge) (firm : anySoft edges ≡ false) whe
   pub firm-plain : orientedEdges n edges ≡ plainEdges edges
   firm-plain = rw (oriented-firm n edges (soft-none edges firm)) (go edges)
     where
-      go : (l : List TableEdge) → map (λ (e : OrientedEdge). e .edge) (map (λ e. orient false (e .edge)) l) ≡ plainEdges l
+      go : (l : List TableEdge) → map (λ (e : OrientedEdge). e .edge) (map (λ e. orient false (ownEdge e)) l) ≡ plainEdges l
       go [] = refl
-      go (e ∷ l) = ap (λ (r : List Edge). e .edge ∷ r) (go l)
+      go (e ∷ l) = ap (λ (r : List Edge). ownEdge e ∷ r) (go l)
 
   pub firm-turned : (i : ℕ) → getD (turnedEdges n edges) i false ≡ false
   firm-turned i = rw (oriented-firm n edges (soft-none edges firm)) (go edges i)
     where
-      go : (l : List TableEdge) (k : ℕ) → getD (map (λ (e : OrientedEdge). e .turned) (map (λ e. orient false (e .edge)) l)) k false ≡ false
+      go : (l : List TableEdge) (k : ℕ) → getD (map (λ (e : OrientedEdge). e .turned) (map (λ e. orient false (ownEdge e)) l)) k false ≡ false
       go [] k = refl
       go (e ∷ l) zero = refl
       go (e ∷ l) (suc k) = go l k
@@ -241,9 +241,9 @@ firm-must [] f = refl
 firm-must (e ∷ edges) f = go (e .soft) f (firm-must edges)
   where
     go : (b : Bool) → b || anySoft edges ≡ false → (anySoft edges ≡ false → mustOf edges ≡ plainEdges edges)
-        → cond b (mustOf edges) (e .edge ∷ mustOf edges) ≡ e .edge ∷ plainEdges edges
+        → cond b (mustOf edges) (ownEdge e ∷ mustOf edges) ≡ ownEdge e ∷ plainEdges edges
     go true q ih = absurd (true≢false q)
-    go false q ih = ap (λ (r : List Edge). e .edge ∷ r) (ih q)
+    go false q ih = ap (λ (r : List Edge). ownEdge e ∷ r) (ih q)
 
 -- ---- which are turned says all
 
@@ -255,7 +255,7 @@ directed-from : (n : ℕ) (stand : List Edge) (edges : List TableEdge)
 unfolding directedBy orientedFrom
 directed-from n stand [] = refl
 directed-from n stand (e ∷ edges) =
-    ap (λ (r : List Edge). orient (turns n stand e) (e .edge) .edge ∷ r)
+    ap (λ (r : List Edge). orient (turns n stand e) (ownEdge e) .edge ∷ r)
     (directed-from n (standAfter (turns n stand e) e stand) edges)
 
 -- the edges directed by which are turned are the edges as kept or turned
@@ -266,12 +266,12 @@ directed-oriented n edges = directed-from n (mustOf edges) edges
 -- ---- an example that computes
 
 abbrev arrow : ℕ → ℕ → Bool → TableEdge
-arrow f t soft = record { edge = record { from = f; to = t; gap = 1; weight = 2 }; soft = soft }
+arrow f t soft = record { from = f; to = t; gap = 1; weight = 2; soft = soft }
 
 -- A must edge 1 to 2 behind soft ones round a loop: 0 to 1 is kept, and 2 to 0 is turned, as is another 2 to 1; 0 to 2 is kept.
 pub oriented-example :
     oriented 3 (arrow 0 1 true ∷ arrow 2 0 true ∷ arrow 1 2 false ∷ arrow 2 1 true ∷ arrow 0 2 true ∷ [])
-    ≡ orient false (arrow 0 1 true .edge) ∷ orient true (arrow 2 0 true .edge) ∷ orient false (arrow 1 2 false .edge) ∷ orient true (arrow 2 1 true .edge)
-    ∷ orient false (arrow 0 2 true .edge) ∷ []
+    ≡ orient false (ownEdge (arrow 0 1 true)) ∷ orient true (ownEdge (arrow 2 0 true)) ∷ orient false (ownEdge (arrow 1 2 false)) ∷ orient true (ownEdge (arrow 2 1 true))
+    ∷ orient false (ownEdge (arrow 0 2 true)) ∷ []
 unfolding mark sweep sweeps reached mustOf leads turns standAfter orientedFrom oriented
 oriented-example = refl

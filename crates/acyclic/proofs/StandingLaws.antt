@@ -10,7 +10,7 @@ use borrow.Author.Tests.{ltb-true, ltb-false}
 use Rattle.graph.specs.declared.Edge.{Edge}
 use Rattle.graph.specs.declared.TableEdge.{TableEdge}
 use Rattle.graph.specs.Rows.{Within}
-use Rattle.graph.specs.Directed.{noTableEdge}
+use Rattle.graph.specs.Directed.{ownEdge, noTableEdge}
 use Rattle.acyclic.specs.Loops.{Walk}
 use Rattle.acyclic.specs.Oriented.{OrientedEdge, noOrientedEdge, orient, mustOf, leads, turns, standAfter, orientedFrom, oriented, keptOf}
 use Rattle.acyclic.proofs.ReachLaws.{reached-sound, reached-complete}
@@ -44,15 +44,15 @@ leads-none n edges s v shut = go (leads n edges s v) refl
 -- What becomes of an edge where some stand: whether it is turned, and which stand then.
 pub data Turn (n : ℕ) (stand : List Edge) (e : TableEdge) : Bool → List Edge → Type 0 where
   must : e .soft ≡ false → Turn n stand e false stand
-  kept : e .soft ≡ true → leads n stand (e .edge .to) (e .edge .from) ≡ false → Turn n stand e false (e .edge ∷ stand)
-  turned : e .soft ≡ true → leads n stand (e .edge .to) (e .edge .from) ≡ true → Turn n stand e true stand
+  kept : e .soft ≡ true → leads n stand (e .to) (e .from) ≡ false → Turn n stand e false (ownEdge e ∷ stand)
+  turned : e .soft ≡ true → leads n stand (e .to) (e .from) ≡ true → Turn n stand e true stand
 
 pub turn-is : (n : ℕ) (stand : List Edge) (e : TableEdge) → Turn n stand e (turns n stand e) (standAfter (turns n stand e) e stand)
 unfolding turns standAfter
-turn-is n stand e = go (e .soft) refl (leads n stand (e .edge .to) (e .edge .from)) refl
+turn-is n stand e = go (e .soft) refl (leads n stand (e .to) (e .from)) refl
   where
-    go : (p : Bool) → e .soft ≡ p → (q : Bool) → leads n stand (e .edge .to) (e .edge .from) ≡ q
-        → Turn n stand e (p && q) (cond (p && not (p && q)) (e .edge ∷ stand) stand)
+    go : (p : Bool) → e .soft ≡ p → (q : Bool) → leads n stand (e .to) (e .from) ≡ q
+        → Turn n stand e (p && q) (cond (p && not (p && q)) (ownEdge e ∷ stand) stand)
     go false f q g = must f
     go true f true g = turned f g
     go true f false g = kept f g
@@ -65,14 +65,14 @@ standingEnd n stand (e ∷ edges) = standingEnd n (standAfter (turns n stand e) 
 module _ (n : ℕ) (stand : List Edge) (e : TableEdge) where
   turn-runs : {t : Bool} {next : List Edge} → Turn n stand e t next → Runs stand next
   turn-runs (must f) = runs-same stand
-  turn-runs (kept f g) = runs-later (e .edge) stand
+  turn-runs (kept f g) = runs-later (ownEdge e) stand
   turn-runs (turned f g) = runs-same stand
 
   -- a must edge stands already; a soft one that is kept joins; one that is turned runs along the walk that turned it
-  turn-way : {t : Bool} {next : List Edge} → Turn n stand e t next → (e .soft ≡ false → Walk stand (e .edge .from) (e .edge .to))
-      → Walk next (orient t (e .edge) .edge .from) (orient t (e .edge) .edge .to)
+  turn-way : {t : Bool} {next : List Edge} → Turn n stand e t next → (e .soft ≡ false → Walk stand (e .from) (e .to))
+      → Walk next (orient t (ownEdge e) .edge .from) (orient t (ownEdge e) .edge .to)
   turn-way (must f) w = w f
-  turn-way (kept f g) w = walk-here (e .edge) stand
+  turn-way (kept f g) w = walk-here (ownEdge e) stand
   turn-way (turned f g) w = leads-true n stand _ _ g
 
 -- ---- walks over those that stand
@@ -87,17 +87,17 @@ after-runs n stand (e ∷ edges) =
 -- the must edges stand
 pub record Stood (edges : List TableEdge) (stand : List Edge) : Type 0 where
   pub stood : (i : ℕ) → i < length edges → getD edges i noTableEdge .soft ≡ false
-      → Walk stand (getD edges i noTableEdge .edge .from) (getD edges i noTableEdge .edge .to)
+      → Walk stand (getD edges i noTableEdge .from) (getD edges i noTableEdge .to)
 
 stood-tail : {e : TableEdge} {edges : List TableEdge} {stand : List Edge} → Stood (e ∷ edges) stand → Stood edges stand
 stood-tail s = record { stood = λ i h f. s .stood (suc i) (suc-le-suc h) f }
 
 stood-cons : {e : TableEdge} {edges : List TableEdge} {next : List Edge} → Stood edges next
-    → (e .soft ≡ false → Walk next (e .edge .from) (e .edge .to)) → Stood (e ∷ edges) next
+    → (e .soft ≡ false → Walk next (e .from) (e .to)) → Stood (e ∷ edges) next
 stood-cons {e} {edges} {next} s w = record { stood = each }
   where
     each : (i : ℕ) → i < length (e ∷ edges) → getD (e ∷ edges) i noTableEdge .soft ≡ false
-        → Walk next (getD (e ∷ edges) i noTableEdge .edge .from) (getD (e ∷ edges) i noTableEdge .edge .to)
+        → Walk next (getD (e ∷ edges) i noTableEdge .from) (getD (e ∷ edges) i noTableEdge .to)
     each zero h = w
     each (suc i) h = s .stood i (le-of-suc-le-suc h)
 
@@ -109,9 +109,9 @@ unfolding mustOf
 must-stood [] = record { stood = λ i h. absurd (not-suc-le-zero h) }
 must-stood (e ∷ edges) = go (e .soft) refl (must-stood edges)
   where
-    go : (p : Bool) → e .soft ≡ p → Stood edges (mustOf edges) → Stood (e ∷ edges) (cond p (mustOf edges) (e .edge ∷ mustOf edges))
+    go : (p : Bool) → e .soft ≡ p → Stood edges (mustOf edges) → Stood (e ∷ edges) (cond p (mustOf edges) (ownEdge e ∷ mustOf edges))
     go true f s = stood-cons s (λ q. absurd (true≢false (sym f ∙ q)))
-    go false f s = stood-cons (stood-on (runs-later (e .edge) (mustOf edges)) s) (λ _. walk-here (e .edge) (mustOf edges))
+    go false f s = stood-cons (stood-on (runs-later (ownEdge e) (mustOf edges)) s) (λ _. walk-here (ownEdge e) (mustOf edges))
 
 -- a walk over those that stand in the end runs along each edge in the direction that it gets
 pub oriented-runs : (n : ℕ) (stand : List Edge) (edges : List TableEdge) → Stood edges stand
@@ -133,7 +133,7 @@ after-kept n stand (e ∷ edges) others r k = go (turn-is n stand e) (after-kept
   where
     go : {t : Bool} {next : List Edge} → Turn n stand e t next
         → (Runs next others → Runs (keptOf (orientedFrom n next edges)) others → Runs (standingEnd n next edges) others)
-        → Runs (cond t (keptOf (orientedFrom n next edges)) (orient t (e .edge) .edge ∷ keptOf (orientedFrom n next edges))) others
+        → Runs (cond t (keptOf (orientedFrom n next edges)) (orient t (ownEdge e) .edge ∷ keptOf (orientedFrom n next edges))) others
         → Runs (standingEnd n next edges) others
     go (must f) ih q = ih r (runs-tail q)
     go (kept f g) ih q = ih (runs-cons (runs-head q) r) (runs-tail q)
@@ -147,8 +147,8 @@ must-kept n stand (e ∷ edges) = go (e .soft) refl (turn-is n stand e) (must-ke
   where
     go : (p : Bool) → e .soft ≡ p → {t : Bool} {next : List Edge} → Turn n stand e t next
         → Runs (mustOf edges) (keptOf (orientedFrom n next edges))
-        → Runs (cond p (mustOf edges) (e .edge ∷ mustOf edges))
-        (cond t (keptOf (orientedFrom n next edges)) (orient t (e .edge) .edge ∷ keptOf (orientedFrom n next edges)))
+        → Runs (cond p (mustOf edges) (ownEdge e ∷ mustOf edges))
+        (cond t (keptOf (orientedFrom n next edges)) (orient t (ownEdge e) .edge ∷ keptOf (orientedFrom n next edges)))
     go true f (must g) ih = absurd (true≢false (sym f ∙ g))
     go true f (kept g l) ih = runs-join ih (runs-later _ _)
     go true f (turned g l) ih = ih
@@ -164,13 +164,13 @@ stand-kept n edges =
 -- an edge that is turned has a walk over those that stand in the end from its head to its tail
 pub turned-walk : (n : ℕ) (stand : List Edge) (edges : List TableEdge) (i : ℕ) → i < length edges
     → getD (orientedFrom n stand edges) i noOrientedEdge .turned ≡ true
-    → Walk (standingEnd n stand edges) (getD edges i noTableEdge .edge .to) (getD edges i noTableEdge .edge .from)
+    → Walk (standingEnd n stand edges) (getD edges i noTableEdge .to) (getD edges i noTableEdge .from)
 unfolding orientedFrom standingEnd
 turned-walk n stand [] i h t = absurd (not-suc-le-zero h)
 turned-walk n stand (e ∷ edges) zero h t = go (turn-is n stand e) (after-runs n (standAfter (turns n stand e) e stand) edges) t
   where
     go : {b : Bool} {next : List Edge} → Turn n stand e b next → Runs next (standingEnd n next edges) → b ≡ true
-        → Walk (standingEnd n next edges) (e .edge .to) (e .edge .from)
+        → Walk (standingEnd n next edges) (e .to) (e .from)
     go (must f) r q = absurd (true≢false (sym q))
     go (kept f g) r q = absurd (true≢false (sym q))
     go (turned f g) r q = walk-replace r (leads-true n stand _ _ g)

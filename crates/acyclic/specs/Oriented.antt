@@ -6,7 +6,7 @@ use lib.Dec.{ltb}
 use Rattle.graph.specs.declared.Edge.{Edge}
 use Rattle.graph.specs.declared.TableEdge.{TableEdge}
 use Rattle.graph.specs.Rows.{at, noEdge}
-use Rattle.graph.specs.Directed.{directed}
+use Rattle.graph.specs.Directed.{ownEdge, directed}
 use Rattle.acyclic.specs.Loops.{reached}
 
 -- an edge in the direction that it gets, and whether that is not its own
@@ -25,7 +25,7 @@ orient turned e = record { edge = directed turned e; turned = turned }
 -- the must edges
 unfoldable pub mustOf : List TableEdge → List Edge
 mustOf [] = []
-mustOf (e ∷ edges) = let rest = mustOf edges in cond (e .soft) rest (e .edge ∷ rest)
+mustOf (e ∷ edges) = let rest = mustOf edges in cond (e .soft) rest (ownEdge e ∷ rest)
 
 -- some edge is soft
 unfoldable pub anySoft : List TableEdge → Bool
@@ -38,17 +38,17 @@ leads n edges s v = ltb 0 (at (reached n edges s) v)
 
 -- a soft edge is turned where a walk over the edges that stand leads from its head to its tail: there it would close a loop
 unfoldable pub turns : ℕ → List Edge → TableEdge → Bool
-turns n stand e = e .soft && leads n stand (e .edge .to) (e .edge .from)
+turns n stand e = e .soft && leads n stand (e .to) (e .from)
 
 -- the edges that stand after it: a soft edge that is kept joins them; a must edge is among them already
 unfoldable pub standAfter : Bool → TableEdge → List Edge → List Edge
-standAfter turned e stand = cond (e .soft && not turned) (e .edge ∷ stand) stand
+standAfter turned e stand = cond (e .soft && not turned) (ownEdge e ∷ stand) stand
 
 -- edges taken in turn, where some stand already
 unfoldable pub orientedFrom : ℕ → List Edge → List TableEdge → List OrientedEdge
 orientedFrom n stand [] = []
 orientedFrom n stand (e ∷ edges) =
-    let turned = turns n stand e in orient turned (e .edge) ∷ orientedFrom n (standAfter turned e stand) edges
+    let turned = turns n stand e in orient turned (ownEdge e) ∷ orientedFrom n (standAfter turned e stand) edges
 
 -- A table's edges for n nodes, each kept or turned, at its own number. All must edges stand from the start. The soft ones are taken in the
 -- table's order, and one is kept exactly where it closes no loop with the must edges and the soft ones that were kept before it.

@@ -22,8 +22,7 @@ pub fn flatten_edges(edges: [TableEdge; MAX_EDGES], turned: [bool; MAX_EDGES], m
     let mut weight = [0usize; MAX_EDGES];
     for i in 0..m {
         let e = edges[i];
-        let own = e.edge;
-        let directed = direct_edge(own, turned[i]);
+        let directed = direct_edge(e, turned[i]);
         from[i] = directed.from;
         to[i] = directed.to;
         gap[i] = directed.gap;

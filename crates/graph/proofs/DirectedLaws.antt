@@ -8,7 +8,7 @@ use lib.ListN.{length, getD, take, replicate}
 use Rattle.graph.specs.declared.Edge.{Edge}
 use Rattle.graph.specs.declared.TableEdge.{TableEdge}
 use Rattle.graph.specs.Rows.{noEdge}
-use Rattle.graph.specs.Directed.{noTableEdge, plainEdges, directed, directedBy}
+use Rattle.graph.specs.Directed.{noTableEdge, ownEdge, plainEdges, directed, directedBy}
 
 pub directed-length : (flags : List Bool) (edges : List TableEdge) → length (directedBy flags edges) ≡ length edges
 unfolding directedBy
@@ -21,12 +21,12 @@ tail-get (f ∷ flags) i = refl
 
 -- edge i is directed by flag i
 pub directed-get : (flags : List Bool) (edges : List TableEdge) (i : ℕ) → i < length edges
-    → getD (directedBy flags edges) i noEdge ≡ directed (getD flags i false) (getD edges i noTableEdge .edge)
+    → getD (directedBy flags edges) i noEdge ≡ directed (getD flags i false) (ownEdge (getD edges i noTableEdge))
 unfolding directedBy
 directed-get flags [] i h = absurd (not-suc-le-zero h)
 directed-get flags (e ∷ edges) zero h = refl
 directed-get flags (e ∷ edges) (suc i) h =
-    directed-get (tail flags) edges i (le-of-suc-le-suc h) ∙ ap (λ b. directed b (getD edges i noTableEdge .edge)) (tail-get flags i)
+    directed-get (tail flags) edges i (le-of-suc-le-suc h) ∙ ap (λ b. directed b (ownEdge (getD edges i noTableEdge))) (tail-get flags i)
 
 -- flags that say the same of every edge direct the edges alike
 pub directed-same : (flags others : List Bool) (edges : List TableEdge) → ((i : ℕ) → i < length edges → getD flags i false ≡ getD others i false)
@@ -53,7 +53,7 @@ pub directed-take : (flags : List Bool) (m : ℕ) (edges : List TableEdge) → t
 unfolding directedBy
 directed-take flags zero edges = refl
 directed-take flags (suc m) [] = refl
-directed-take flags (suc m) (e ∷ edges) = ap (λ l. directed (getD flags 0 false) (e .edge) ∷ l) (directed-take (tail flags) m edges)
+directed-take flags (suc m) (e ∷ edges) = ap (λ l. directed (getD flags 0 false) (ownEdge e) ∷ l) (directed-take (tail flags) m edges)
 
 -- no flags stand behind the last
 pub padded-get : (flags : List Bool) (k i : ℕ) → getD (flags ++ replicate k false) i false ≡ getD flags i false
@@ -65,7 +65,7 @@ padded-get (f ∷ flags) k (suc i) = padded-get flags k i
 
 -- what holds of an edge whichever way it points holds of a directed one
 pub directed-each : (P : Edge → Type 0) (flags : List Bool) (edges : List TableEdge)
-    → ((i : ℕ) → i < length edges → (b : Bool) → P (directed b (getD edges i noTableEdge .edge)))
+    → ((i : ℕ) → i < length edges → (b : Bool) → P (directed b (ownEdge (getD edges i noTableEdge))))
     → (i : ℕ) → i < length (directedBy flags edges) → P (getD (directedBy flags edges) i noEdge)
 directed-each P flags edges h i l =
     let inside : i < length edges = subst (λ k. i < k) (directed-length flags edges) l in

@@ -4,15 +4,17 @@ use mathlib.Core.List.{List, [], _∷_, map, tail}
 use lib.ListN.{getD}
 use Rattle.graph.specs.declared.Edge.{Edge}
 use Rattle.graph.specs.declared.TableEdge.{TableEdge}
-use Rattle.graph.specs.Rows.{noEdge}
 
 -- what stands past the end of a list of a table's edges
 abbrev pub noTableEdge : TableEdge
-noTableEdge = record { edge = noEdge; soft = false }
+noTableEdge = record { from = 0; to = 0; gap = 0; weight = 0; soft = false }
 
--- the edges without their firmness
+-- an edge without its firmness
+abbrev pub ownEdge : TableEdge → Edge
+ownEdge e = record { from = e .from; to = e .to; gap = e .gap; weight = e .weight }
+
 abbrev pub plainEdges : List TableEdge → List Edge
-plainEdges edges = map (λ (e : TableEdge). e .edge) edges
+plainEdges edges = map ownEdge edges
 
 -- an edge with its ends exchanged, and nothing else
 abbrev pub turn : Edge → Edge
@@ -25,4 +27,4 @@ directed turned e = cond turned (turn e) e
 -- each edge as its flag says
 unfoldable pub directedBy : List Bool → List TableEdge → List Edge
 directedBy flags [] = []
-directedBy flags (e ∷ edges) = directed (getD flags 0 false) (e .edge) ∷ directedBy (tail flags) edges
+directedBy flags (e ∷ edges) = directed (getD flags 0 false) (ownEdge e) ∷ directedBy (tail flags) edges

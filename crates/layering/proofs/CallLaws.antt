@@ -8,7 +8,7 @@ use lib.ListN.{length, getD, take, length-append, length-replicate}
 use lib.Seq.{take-append-seam, getD-take}
 use Rattle.graph.specs.declared.TableEdge.{TableEdge}
 use Rattle.graph.specs.Rows.{Best, Within}
-use Rattle.graph.specs.Directed.{noTableEdge}
+use Rattle.graph.specs.Directed.{ownEdge, noTableEdge}
 use Rattle.graph.specs.Search.{rowsOf}
 use Rattle.graph.proofs.BoundLaws.{best-is-rowsOf}
 use Rattle.outcome.specs.declared.Refusal.{Refusal}
@@ -80,8 +80,8 @@ module _ (t : TableRead) (s : List ℕ) (h : Told t (read s)) where
         few-edges = table-few;
         long = table-long;
         each = λ i l.
-            subst (λ (k : ℕ). FairEdge k (getD (t .table .edges) i noTableEdge .edge)) (sym table-n)
-            (subst (λ (e : TableEdge). FairEdge (length (h .contents .steps)) (e .edge)) (edge-at i l)
+            subst (λ (k : ℕ). FairEdge k (ownEdge (getD (t .table .edges) i noTableEdge))) (sym table-n)
+            (subst (λ (e : TableEdge). FairEdge (length (h .contents .steps)) (ownEdge e)) (edge-at i l)
             (read-fair s (h .outcome) .each-edge i (omega (arith, table-m))));
       }
     where

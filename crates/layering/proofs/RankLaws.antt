@@ -11,7 +11,7 @@ use Rattle.graph.specs.declared.Edge.{Edge}
 use Rattle.graph.specs.declared.TableEdge.{TableEdge}
 use Rattle.graph.specs.Rows.{noEdge}
 use Rattle.graph.specs.Search.{rowsOf}
-use Rattle.graph.specs.Directed.{noTableEdge, plainEdges, directed, directedBy}
+use Rattle.graph.specs.Directed.{ownEdge, noTableEdge, plainEdges, directed, directedBy}
 use Rattle.graph.proofs.DirectedLaws.{directed-length, directed-same, directed-none, directed-each, directed-take, padded-get}
 use Rattle.outcome.specs.declared.Refusal.the-variants.{Loop}
 use Rattle.outcome.specs.Refusal.{Outcome, done, refused}
@@ -80,7 +80,7 @@ directed-fair n e f true =
 pub record FairTable (n : ℕ) (edges : List TableEdge) : Type 0 where
   pub few-steps : n ≤ maxSteps
   pub few-edges : length edges ≤ maxEdges
-  pub each : (i : ℕ) → i < length edges → FairEdge n (getD edges i noTableEdge .edge)
+  pub each : (i : ℕ) → i < length edges → FairEdge n (ownEdge (getD edges i noTableEdge))
 
 module _ (n : ℕ) (edges : List TableEdge) (fair : FairTable n edges) where
   pub directed-edges-fair : (flags : List Bool) → FairEdges n (directedBy flags edges)
@@ -88,7 +88,7 @@ module _ (n : ℕ) (edges : List TableEdge) (fair : FairTable n edges) where
       record {
         few-steps = fair .few-steps;
         few-edges = subst (λ k. k ≤ maxEdges) (sym (directed-length flags edges)) (fair .few-edges);
-        each = directed-each (FairEdge n) flags edges (λ i h b. directed-fair n (getD edges i noTableEdge .edge) (fair .each i h) b);
+        each = directed-each (FairEdge n) flags edges (λ i h b. directed-fair n (ownEdge (getD edges i noTableEdge)) (fair .each i h) b);
       }
 
   pub oriented-fair : FairEdges n (orientedEdges n edges)
@@ -101,9 +101,13 @@ module _ (n : ℕ) (edges : List TableEdge) (fair : FairTable n edges) where
   -- ---- no soft edge: the search for a loop that finding rows begins with looks at the must edges, which are all
 
   module _ (firm : anySoft edges ≡ false) where
-    firm-found : rowsFound n (orientedEdges n edges) ≡ tableRowsFound n edges
+    -- so a table's rows are then those of its edges as they are, found as for lent edges
+    pub firm-rows : rowsFound n (plainEdges edges) ≡ tableRowsFound n edges
     unfolding rowsFound tableRowsFound
-    firm-found = rw (firm-plain n edges firm, firm-must edges firm)
+    firm-rows = rw (firm-plain n edges firm, firm-must edges firm)
+
+    firm-found : rowsFound n (orientedEdges n edges) ≡ tableRowsFound n edges
+    firm-found = ap (rowsFound n) (firm-plain n edges firm) ∙ firm-rows
 
     firm-directed : directedBy noFlags edges ≡ orientedEdges n edges
     firm-directed = directed-none noFlags edges (λ i h. no-flag i) ∙ sym (firm-plain n edges firm)
@@ -157,7 +161,7 @@ module _ {n m : ℕ} {edges : List TableEdge} (o : Orientable n m edges) where
         few-steps = o .few-steps;
         few-edges = omega (arith, count, o .few-edges);
         each = λ i h. let l : i < m = omega (arith, count) in
-            subst (λ (e : TableEdge). FairEdge n (e .edge)) (sym (getD-take m edges i noTableEdge l)) (o .each i l);
+            subst (λ (e : TableEdge). FairEdge n (ownEdge e)) (sym (getD-take m edges i noTableEdge l)) (o .each i l);
       }
     where
       count : length (take m edges) ≡ m

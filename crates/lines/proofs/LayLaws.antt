@@ -10,7 +10,7 @@ use lib.Seq.{drop-cons, getD-take, length-take-le}
 use Rattle.graph.specs.declared.Edge.{Edge}
 use Rattle.graph.specs.declared.TableEdge.{TableEdge}
 use Rattle.graph.specs.Rows.{at, noEdge}
-use Rattle.graph.specs.Directed.{noTableEdge, directed, directedBy}
+use Rattle.graph.specs.Directed.{ownEdge, noTableEdge, directed, directedBy}
 use Rattle.graph.specs.Search.{run}
 use Rattle.graph.proofs.DirectedLaws.{directed-length, directed-get}
 use Rattle.points.specs.Points.{Dummy, dummies}
@@ -36,11 +36,11 @@ module _ (turned : List Bool) (edges : List TableEdge) (m : ℕ) (few : m ≤ le
   laid-count = directed-length turned (take m edges) ∙ length-take-le m edges few
 
   -- edge i of the array, directed by its own flag, is edge i of these
-  pub laid-edge : (i : ℕ) → i < m → {d : Edge} → d ≡ directed (getD turned i false) (getD edges i noTableEdge .edge)
+  pub laid-edge : (i : ℕ) → i < m → {d : Edge} → d ≡ directed (getD turned i false) (ownEdge (getD edges i noTableEdge))
       → getD (directedBy turned (take m edges)) i noEdge ≡ d
   laid-edge i h {d} e =
       directed-get turned (take m edges) i (omega (arith, length-take-le m edges few))
-      ∙ ap (λ (x : TableEdge). directed (getD turned i false) (x .edge)) (getD-take m edges i noTableEdge h) ∙ sym e
+      ∙ ap (λ (x : TableEdge). directed (getD turned i false) (ownEdge x)) (getD-take m edges i noTableEdge h) ∙ sym e
 
 -- ---- edge by edge
 

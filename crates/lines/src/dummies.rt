@@ -28,8 +28,7 @@ pub fn lay_dummies(
     let mut next = 0;
     for i in 0..m {
         let e = edges[i];
-        let own = e.edge;
-        let d = direct_edge(own, turned[i]);
+        let d = direct_edge(e, turned[i]);
         let from = d.from;
         let to = d.to;
         next = lay_edge(i, ys[from], ys[to], owners, rows, next);

@@ -86,8 +86,7 @@ fn split_ends(edges: [TableEdge; MAX_EDGES], turned: [bool; MAX_EDGES], m: usize
     let mut to = [0usize; MAX_EDGES];
     for i in 0..m {
         let e = edges[i];
-        let own = e.edge;
-        let directed = direct_edge(own, turned[i]);
+        let directed = direct_edge(e, turned[i]);
         from[i] = directed.from;
         to[i] = directed.to;
     }

@@ -9,7 +9,7 @@ use lib.ListN.{length, getD, take, set, replicate, length-set, length-replicate,
 use lib.Seq.{take-suc, take-suc-set, take-set-le}
 use Rattle.graph.specs.declared.Edge.{Edge}
 use Rattle.graph.specs.declared.TableEdge.{TableEdge}
-use Rattle.graph.specs.Directed.{noTableEdge}
+use Rattle.graph.specs.Directed.{ownEdge, noTableEdge}
 use Rattle.table.specs.Limits.{maxEdges}
 use Rattle.acyclic.specs.Oriented.{mustOf}
 use Rattle.orientation.specs.Gathered.{placeAfter, Column, Gathered}
@@ -22,9 +22,9 @@ must-append [] e = refl
 must-append (d ∷ edges) e = go (d .soft) (must-append edges e)
   where
     go : (b : Bool) → mustOf (edges ++ e ∷ []) ≡ mustOf edges ++ mustOf (e ∷ [])
-        → cond b (mustOf (edges ++ e ∷ [])) (d .edge ∷ mustOf (edges ++ e ∷ [])) ≡ cond b (mustOf edges) (d .edge ∷ mustOf edges) ++ mustOf (e ∷ [])
+        → cond b (mustOf (edges ++ e ∷ [])) (ownEdge d ∷ mustOf (edges ++ e ∷ [])) ≡ cond b (mustOf edges) (ownEdge d ∷ mustOf edges) ++ mustOf (e ∷ [])
     go true ih = ih
-    go false ih = ap (λ (l : List Edge). d .edge ∷ l) ih
+    go false ih = ap (λ (l : List Edge). ownEdge d ∷ l) ih
 
 -- a soft edge adds none, and a must edge itself
 module _ (edges : List TableEdge) (e : TableEdge) where
@@ -36,7 +36,7 @@ module _ (edges : List TableEdge) (e : TableEdge) where
       append-none [] = refl
       append-none (x ∷ l) = ap (λ (t : List Edge). x ∷ t) (append-none l)
 
-  must-firm : e .soft ≡ false → mustOf (edges ++ e ∷ []) ≡ mustOf edges ++ e .edge ∷ []
+  must-firm : e .soft ≡ false → mustOf (edges ++ e ∷ []) ≡ mustOf edges ++ ownEdge e ∷ []
   unfolding mustOf
   must-firm s = must-append edges e ∙ rw s refl
 
@@ -88,7 +88,7 @@ module _ {edges : List TableEdge} {i k : ℕ} {from to gap : List ℕ} (g : Gath
 
   -- the arrays after the edge is written to entry k
   abbrev Next : List Edge → ℕ → Type 0
-  Next l j = Gathered l j (set from k (e .edge .from)) (set to k (e .edge .to)) (set gap k (e .edge .gap))
+  Next l j = Gathered l j (set from k (e .from)) (set to k (e .to)) (set gap k (e .gap))
 
   next-soft : Next (mustOf (take i edges)) k
   next-soft =
@@ -99,21 +99,21 @@ module _ {edges : List TableEdge} {i k : ℕ} {from to gap : List ℕ} (g : Gath
         count = g .held .count;
       }
 
-  next-firm : k < maxEdges → Next (mustOf (take i edges) ++ e .edge ∷ []) (k + 1)
+  next-firm : k < maxEdges → Next (mustOf (take i edges) ++ ownEdge e ∷ []) (k + 1)
   next-firm h =
       record {
-        froms = column-more _ _ (g .held .froms) (e .edge) refl h;
-        tos = column-more _ _ (g .held .tos) (e .edge) refl h;
-        gaps = column-more _ _ (g .held .gaps) (e .edge) refl h;
-        count = omega (arith, length-append (mustOf (take i edges)) (e .edge ∷ []), g .held .count);
+        froms = column-more _ _ (g .held .froms) (ownEdge e) refl h;
+        tos = column-more _ _ (g .held .tos) (ownEdge e) refl h;
+        gaps = column-more _ _ (g .held .gaps) (ownEdge e) refl h;
+        count = omega (arith, length-append (mustOf (take i edges)) (ownEdge e ∷ []), g .held .count);
       }
 
   pub gathering-more : i < length edges → i < maxEdges → {next : ℕ} → next ≡ placeAfter k (e .soft)
-      → Gathering edges (i + 1) next (set from k (e .edge .from)) (set to k (e .edge .to)) (set gap k (e .edge .gap))
+      → Gathering edges (i + 1) next (set from k (e .from)) (set to k (e .to)) (set gap k (e .gap))
   unfolding placeAfter
   gathering-more inside room {next} place = go (e .soft) refl
     where
-      go : (b : Bool) → e .soft ≡ b → Gathering edges (i + 1) next (set from k (e .edge .from)) (set to k (e .edge .to)) (set gap k (e .edge .gap))
+      go : (b : Bool) → e .soft ≡ b → Gathering edges (i + 1) next (set from k (e .from)) (set to k (e .to)) (set gap k (e .gap))
       go true s =
           let stays : next ≡ k = place ∙ ap (λ (b : Bool). cond b k (k + 1)) s in
           record {

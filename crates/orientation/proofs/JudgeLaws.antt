@@ -10,7 +10,7 @@ use lib.Seq.{take-suc-set, append-snoc, getD-set-other, getD-drop, ext-getD}
 use Rattle.graph.specs.declared.Edge.{Edge}
 use Rattle.graph.specs.declared.TableEdge.{TableEdge}
 use Rattle.graph.specs.Rows.{at}
-use Rattle.graph.specs.Directed.{noTableEdge}
+use Rattle.graph.specs.Directed.{ownEdge, noTableEdge}
 use Rattle.table.specs.Limits.{maxEdges}
 use Rattle.table.specs.Fair.{FairEdge}
 use Rattle.buffers.specs.Padded.{padded}
@@ -32,9 +32,9 @@ module _ (n : ℕ) (e : TableEdge) (old : List ℕ) where
   pub put-soft : e .soft ≡ true → MustPut n e old old
   put-soft s = record { long = refl; must = λ f. absurd (true≢false (sym s ∙ f)); soft = λ _. refl }
 
-  pub put-must : {new : List ℕ} → e .soft ≡ false → Added n (e .edge .from) (e .edge .to) old new → MustPut n e old new
+  pub put-must : {new : List ℕ} → e .soft ≡ false → Added n (e .from) (e .to) old new → MustPut n e old new
   put-must f a =
-      record { long = a .long; must = λ _ stand c. a .closure stand (e .edge) refl refl c; soft = λ s. absurd (true≢false (sym s ∙ f)) }
+      record { long = a .long; must = λ _ stand c. a .closure stand (ownEdge e) refl refl c; soft = λ s. absurd (true≢false (sym s ∙ f)) }
 
 -- the matrix of the must edges from i on, of the first m
 pub record Putting (n m : ℕ) (edges : List TableEdge) (i : ℕ) (reach : List ℕ) : Type 0 where
@@ -74,27 +74,27 @@ module _ (n : ℕ) (e : TableEdge) (old : List ℕ) where
   unfolding turns standAfter
   judged-must f = record { long = refl; says = λ stand c. rw f refl; stands = λ stand c. rw f c }
 
-  module _ (soft : e .soft ≡ true) (fair : FairEdge n (e .edge)) where
-    pub judged-turned : 0 < at old (e .edge .to * n + e .edge .from) → Judged n e old old true
+  module _ (soft : e .soft ≡ true) (fair : FairEdge n (ownEdge e)) where
+    pub judged-turned : 0 < at old (e .to * n + e .from) → Judged n e old old true
     unfolding turns standAfter
     judged-turned p = record { long = refl; says = λ stand c. rw soft (sym (closes stand c)); stands = λ stand c. rw soft c }
       where
-        closes : (stand : List Edge) → Closure n stand old → leads n stand (e .edge .to) (e .edge .from) ≡ true
-        closes stand c = leads-walk n stand _ _ (c .within) (c .row (e .edge .to) (fair .to-in) .sound (e .edge .from) (fair .from-in) p)
+        closes : (stand : List Edge) → Closure n stand old → leads n stand (e .to) (e .from) ≡ true
+        closes stand c = leads-walk n stand _ _ (c .within) (c .row (e .to) (fair .to-in) .sound (e .from) (fair .from-in) p)
 
-    pub judged-kept : {new : List ℕ} → at old (e .edge .to * n + e .edge .from) ≡ 0 → Added n (e .edge .from) (e .edge .to) old new
+    pub judged-kept : {new : List ℕ} → at old (e .to * n + e .from) ≡ 0 → Added n (e .from) (e .to) old new
         → Judged n e old new false
     unfolding turns standAfter
     judged-kept z a =
         record {
           long = a .long;
           says = λ stand c. rw soft (sym (leads-not stand c));
-          stands = λ stand c. rw soft (a .closure stand (e .edge) refl refl c);
+          stands = λ stand c. rw soft (a .closure stand (ownEdge e) refl refl c);
         }
       where
-        leads-not : (stand : List Edge) → Closure n stand old → leads n stand (e .edge .to) (e .edge .from) ≡ false
+        leads-not : (stand : List Edge) → Closure n stand old → leads n stand (e .to) (e .from) ≡ false
         leads-not stand c =
-            leads-none n stand _ _ (λ w. omega (arith, c .row (e .edge .to) (fair .to-in) .full (e .edge .from) (fair .from-in) w))
+            leads-none n stand _ _ (λ w. omega (arith, c .row (e .to) (fair .to-in) .full (e .from) (fair .from-in) w))
 
 -- ---- all edges judged
 

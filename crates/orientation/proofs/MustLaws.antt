@@ -9,7 +9,7 @@ use lib.Seq.{getD-take, length-take-le}
 use Rattle.graph.specs.declared.Edge.{Edge}
 use Rattle.graph.specs.declared.TableEdge.{TableEdge}
 use Rattle.graph.specs.Rows.{at, noEdge, Within}
-use Rattle.graph.specs.Directed.{noTableEdge}
+use Rattle.graph.specs.Directed.{ownEdge, noTableEdge}
 use Rattle.relaxation.specs.Network.{edgesOf}
 use Rattle.table.specs.Limits.{maxEdges}
 use Rattle.table.specs.Fair.{FairEdge}
@@ -43,7 +43,7 @@ unfolding mustOf
 fewer [] = omega arith
 fewer (e ∷ edges) = go (e .soft) (fewer edges)
   where
-    go : (b : Bool) → length (mustOf edges) ≤ length edges → length (cond b (mustOf edges) (e .edge ∷ mustOf edges)) ≤ suc (length edges)
+    go : (b : Bool) → length (mustOf edges) ≤ length edges → length (cond b (mustOf edges) (ownEdge e ∷ mustOf edges)) ≤ suc (length edges)
     go true h = omega arith
     go false h = omega arith
 
@@ -57,7 +57,7 @@ module _ {n m : ℕ} {edges : List TableEdge} (o : Orientable n m edges) where
   must-fair : (j : ℕ) → j < length must → FairEdge n (getD must j noEdge)
   must-fair =
       must-each (FairEdge n) (take m edges)
-      (λ i h f. subst (λ (e : TableEdge). FairEdge n (e .edge)) (sym (getD-take m edges i noTableEdge (omega (arith, counted)))) (o .each i (omega (arith, counted))))
+      (λ i h f. subst (λ (e : TableEdge). FairEdge n (ownEdge e)) (sym (getD-take m edges i noTableEdge (omega (arith, counted)))) (o .each i (omega (arith, counted))))
 
   within : Within n must
   within j h = (must-fair j h .from-in, must-fair j h .to-in)

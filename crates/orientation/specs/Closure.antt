@@ -8,6 +8,7 @@ use lib.Dec.{ltb}
 use lib.ListN.{length}
 use Rattle.graph.specs.declared.Edge.{Edge}
 use Rattle.graph.specs.declared.TableEdge.{TableEdge}
+use Rattle.graph.specs.Directed.{ownEdge}
 use Rattle.graph.specs.Rows.{at, Within}
 use Rattle.table.specs.Limits.{maxSteps}
 use Rattle.acyclic.specs.Loops.{Walk}
@@ -70,7 +71,7 @@ pub record Added (n a b : ℕ) (old new : List ℕ) : Type 0 where
 -- a must edge is put in, and a soft one is not
 pub record MustPut (n : ℕ) (e : TableEdge) (old new : List ℕ) : Type 0 where
   pub long : length new ≡ length old
-  pub must : e .soft ≡ false → (stand : List Edge) → Closure n stand old → Closure n (e .edge ∷ stand) new
+  pub must : e .soft ≡ false → (stand : List Edge) → Closure n stand old → Closure n (ownEdge e ∷ stand) new
   pub soft : e .soft ≡ true → new ≡ old
 
 -- whether an edge is turned, and the matrix of the edges that stand after it

@@ -4,7 +4,7 @@ use mathlib.Core.List.{List}
 use Prim.Native.Nat.{ℕ, _≤_, _<_}
 use lib.ListN.{length, getD}
 use Rattle.graph.specs.declared.TableEdge.{TableEdge}
-use Rattle.graph.specs.Directed.{noTableEdge}
+use Rattle.graph.specs.Directed.{ownEdge, noTableEdge}
 use Rattle.table.specs.Limits.{maxSteps, maxEdges}
 use Rattle.table.specs.Fair.{FairEdge}
 
@@ -13,4 +13,4 @@ pub record Orientable (n m : ℕ) (edges : List TableEdge) : Type 0 where
   pub few-steps : n ≤ maxSteps
   pub few-edges : m ≤ maxEdges
   pub long : length edges ≡ maxEdges
-  pub each : (i : ℕ) → i < m → FairEdge n (getD edges i noTableEdge .edge)
+  pub each : (i : ℕ) → i < m → FairEdge n (ownEdge (getD edges i noTableEdge))

@@ -27,10 +27,9 @@ pub fn gather_must(edges: [TableEdge; MAX_EDGES], m: usize) -> MustEdges
     let mut k = 0;
     for i in 0..m {
         let e = edges[i];
-        let own = e.edge;
-        from[k] = own.from;
-        to[k] = own.to;
-        gap[k] = own.gap;
+        from[k] = e.from as usize;
+        to[k] = e.to as usize;
+        gap[k] = e.gap as usize;
         k = place_after(k, e.soft);
     }
     MustEdges {

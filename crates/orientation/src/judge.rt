@@ -7,6 +7,7 @@ ghost use mathlib.Core.List.{[]};
 ghost use mathlib.Core.Bool.{false};
 ghost use Prim.Native.Nat.{_≤_};
 ghost use lib.ListN.{length, take};
+ghost use Rattle.graph.specs.Directed.{ownEdge};
 ghost use Rattle.table.specs.Limits.{maxSteps, maxEdges};
 ghost use Rattle.table.specs.Fair.{FairEdge};
 ghost use Rattle.buffers.specs.Padded.{padded};
@@ -31,14 +32,13 @@ pub fn put_must(edges: [TableEdge; MAX_EDGES], m: usize, n: usize, reach: &mut [
 // An edge put in if it is a must edge.
 fn put_edge(e: TableEdge, n: usize, reach: &mut [u8])
     requires { ⌜ (n ≤ maxSteps) × Room n (now reach) ⌝ }
-    requires { ⌜ FairEdge n (e .edge) ⌝ }
+    requires { ⌜ FairEdge n (ownEdge e) ⌝ }
     ensures { λ _. ⌜ MustPut n e (now (reach .entry)) (now (reach .exit)) ⌝ }
 {
     if e.soft {
         return;
     }
-    let own = e.edge;
-    add_edge(reach, n, own.from, own.to);
+    add_edge(reach, n, e.from as usize, e.to as usize);
 }
 
 // Which of the first m edges are turned, where the must edges are put in.
@@ -62,17 +62,18 @@ pub fn judge_edges(
 // Whether an edge is turned. A soft edge closes a loop where a walk leads from its head to its tail; any other is kept and put in.
 fn judge_edge(e: TableEdge, n: usize, reach: &mut [u8]) -> bool
     requires { ⌜ (n ≤ maxSteps) × Room n (now reach) ⌝ }
-    requires { ⌜ FairEdge n (e .edge) ⌝ }
+    requires { ⌜ FairEdge n (ownEdge e) ⌝ }
     ensures { λ r. ⌜ Judged n e (now (reach .entry)) (now (reach .exit)) r ⌝ }
 {
     if !e.soft {
         return false;
     }
-    let own = e.edge;
-    let back = own.to * n + own.from;
+    let from = e.from as usize;
+    let to = e.to as usize;
+    let back = to * n + from;
     if reach[back] != 0 {
         return true;
     }
-    add_edge(reach, n, own.from, own.to);
+    add_edge(reach, n, from, to);
     false
 }

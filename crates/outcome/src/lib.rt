@@ -17,7 +17,7 @@ pub enum Refusal {
     BadEnd,
     // Bytes follow the last edge.
     Spare,
-    // The edges form a loop: the lowest step on one.
+    // Must edges form a loop: the lowest step on one.
     Loop(usize),
     ManyPoints,
     ShortBuffer,

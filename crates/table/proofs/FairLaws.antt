@@ -9,7 +9,7 @@ use lib.Dec.{leb, ltb, eqb}
 use lib.ListN.{length}
 use Rattle.graph.specs.declared.Edge.{Edge}
 use Rattle.graph.specs.declared.TableEdge.{TableEdge}
-use Rattle.graph.specs.Directed.{noTableEdge}
+use Rattle.graph.specs.Directed.{noTableEdge, ownEdge}
 use Rattle.table.specs.declared.types.Kind.{Kind}
 use Rattle.table.specs.declared.types.Kind.the-variants.{Check, Adjust, Wait}
 use Rattle.outcome.specs.declared.Refusal.the-variants.{BadEdition, ManySteps, BadKind, OutOfRange, BadNameByte, ManyEdges, BadEnd, Spare, BadFirmness}
@@ -154,6 +154,13 @@ edge-fair s n at {x} {p} e =
       edge-wide at (a .place) (b .place) (g .place) (w .place) p (from .2) (to .2) (q .1) (r .1) z,
     )
 
+-- and each of its numbers fits a byte
+pub edge-narrow : (s : List ℕ) (n at : ℕ) {x : Edge} {p : ℕ} → n ≤ maxSteps → edgeAt s n at ≡ got x p
+    → (x .from < 0x100) × (x .to < 0x100) × (x .gap < 0x100) × (x .weight < 0x100)
+edge-narrow s n at h e =
+    let f = edge-fair s n at e .0 in
+    (omega (arith, f .from-in), omega (arith, f .to-in), omega (arith, f .gap-low), omega (arith, f .weight-low))
+
 -- a firmness takes at most 3
 pub firmness-place : (s : List ℕ) (edition at : ℕ) {v p : ℕ} → firmnessAt s edition at ≡ got v p → p ≤ at + 3
 unfolding firmnessAt
@@ -166,13 +173,13 @@ firmness-place s edition at {v} {p} e = go (eqb edition minEdition) e
 table-edge-wide : (at a f p : ℕ) → a ≤ at + 12 → f ≤ a + 3 → f ≡ p → p ≤ at + 15
 table-edge-wide at a f p c d e = omega arith
 
-pub table-edge-fair : (s : List ℕ) (edition n at : ℕ) {x : TableEdge} {p : ℕ} → tableEdgeAt s edition n at ≡ got x p → FairEdge n (x .edge) × (p ≤ at + 15)
+pub table-edge-fair : (s : List ℕ) (edition n at : ℕ) {x : TableEdge} {p : ℕ} → tableEdgeAt s edition n at ≡ got x p → FairEdge n (ownEdge x) × (p ≤ at + 15)
 unfolding tableEdgeAt
 table-edge-fair s edition n at {x} {p} e =
     let a = came (edgeAt s n at) _ e in
     let f = came (firmnessAt s edition (a .place)) _ (a .next) in
     let own = edge-fair s n at (a .first) in (
-      subst (λ (y : TableEdge). FairEdge n (y .edge)) (got-value (f .next)) (own .0),
+      subst (λ (y : TableEdge). FairEdge n (ownEdge y)) (got-value (f .next)) (own .0),
       table-edge-wide at (a .place) (f .place) p (own .1) (firmness-place s edition (a .place) (f .first)) (got-place (f .next)),
     )
 
@@ -206,7 +213,7 @@ table-fair s {c} {p} e =
       few-steps = subst (λ x. x ≤ maxSteps) (sym nl) few;
       few-edges = subst (λ x. x ≤ maxEdges) (sym ml) fewer;
       each-step = many-each (stepAt s) (FairStep s) noStep (λ at a q h. step-fair s at h .0) (n .value) (n .place) (n .next);
-      each-edge = many-each (tableEdgeAt s (ed .value) (length (st .value))) (λ (x : TableEdge). FairEdge (length (st .value)) (x .edge)) noTableEdge (λ at a q h. table-edge-fair s (ed .value) (length (st .value)) at h .0) (m .value) (m .place) (m .next);
+      each-edge = many-each (tableEdgeAt s (ed .value) (length (st .value))) (λ (x : TableEdge). FairEdge (length (st .value)) (ownEdge x)) noTableEdge (λ at a q h. table-edge-fair s (ed .value) (length (st .value)) at h .0) (m .value) (m .place) (m .next);
       short = subst (λ x. x ≤ maxTable) end
           (table-wide (ed .place) (n .place) (n .value) (st .place) (m .place) (m .value) (es .place) (a .1) (b .1) few wide (d .1) fewer wider);
     })

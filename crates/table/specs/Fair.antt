@@ -4,7 +4,7 @@ use mathlib.Core.List.{List}
 use Prim.Native.Nat.{ℕ, _+_, _≤_, _<_}
 use lib.ListN.{length, getD}
 use Rattle.graph.specs.declared.Edge.{Edge}
-use Rattle.graph.specs.Directed.{noTableEdge}
+use Rattle.graph.specs.Directed.{noTableEdge, ownEdge}
 use Rattle.table.specs.declared.types.Kind.{Kind}
 use Rattle.table.specs.declared.types.Kind.the-variants.{Check, Adjust, Wait}
 use Rattle.table.specs.declared.types.Step.{Step}
@@ -38,5 +38,5 @@ pub record Fair (s : List ℕ) (c : Contents) : Type 0 where
   pub few-steps : length (c .steps) ≤ maxSteps
   pub few-edges : length (c .edges) ≤ maxEdges
   pub each-step : (i : ℕ) → i < length (c .steps) → FairStep s (getD (c .steps) i noStep)
-  pub each-edge : (i : ℕ) → i < length (c .edges) → FairEdge (length (c .steps)) (getD (c .edges) i noTableEdge .edge)
+  pub each-edge : (i : ℕ) → i < length (c .edges) → FairEdge (length (c .steps)) (ownEdge (getD (c .edges) i noTableEdge))
   pub short : length s ≤ maxTable

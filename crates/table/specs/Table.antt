@@ -1,6 +1,6 @@
 -- The table of document 01, with the firmness of document 02: an edition, the steps behind their count, the edges behind theirs, and no
 -- byte more.
-use mathlib.Core.Bool.{not, _&&_, cond}
+use mathlib.Core.Bool.{Bool, not, _&&_, cond}
 use mathlib.Core.List.{List, []}
 use Prim.Native.Nat.{ℕ}
 use lib.Dec.{leb, ltb, eqb}
@@ -63,11 +63,15 @@ edgeAt s n at = andThen (endAt s n n at) λ from p. andThen (endAt s n from p) �
 unfoldable pub firmnessAt : List ℕ → ℕ → ℕ → Read ℕ
 firmnessAt s edition at = cond (eqb edition minEdition) (got 0 at) (numberIn 0 softness BadFirmness s at)
 
+-- an edge and its firmness
+abbrev pub tableEdge : Edge → Bool → TableEdge
+tableEdge e soft = record { from = e .from; to = e .to; gap = e .gap; weight = e .weight; soft = soft }
+
 -- an edge with its firmness, which comes last
 unfoldable pub tableEdgeAt : List ℕ → ℕ → ℕ → ℕ → Read TableEdge
 tableEdgeAt s edition n at =
     andThen (edgeAt s n at) λ e p.
-    andThen (firmnessAt s edition p) λ firmness q. got (record { edge = e; soft = eqb firmness softness }) q
+    andThen (firmnessAt s edition p) λ firmness q. got (tableEdge e (eqb firmness softness)) q
 
 -- the count of steps, then the steps
 unfoldable pub stepsAt : List ℕ → ℕ → Read (List Step)

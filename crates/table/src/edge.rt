@@ -11,6 +11,8 @@ use graph::Edge;
 use graph::TableEdge;
 use outcome::Refusal;
 ghost use mathlib.Core.Path.{_≡_};
+ghost use Prim.Native.Nat.{_≤_};
+ghost use Rattle.table.specs.Limits.{maxSteps};
 ghost use Rattle.table.specs.Number.{numberRead};
 ghost use Rattle.table.specs.Table.{endAt, edgeBetween, edgeAt, firmnessAt, tableEdgeAt};
 ghost use Rattle.table.specs.Reads.{edgeRead, tableEdgeRead};
@@ -87,8 +89,9 @@ fn firmness_at(s: &[u8], edition: usize, at: usize) -> NumberRead
     number_in(s, at, 0, SOFT, Refusal::BadFirmness)
 }
 
-// An edge of a table of n steps, with its firmness.
+// An edge of a table of n steps, with its firmness. Each of its numbers was judged, so that it fits a byte.
 pub fn table_edge_at(s: &[u8], edition: usize, n: usize, at: usize) -> TableEdgeRead
+    requires { ⌜ n ≤ maxSteps ⌝ }
     ensures { λ r. ⌜ tableEdgeRead r ≡ tableEdgeAt (now (s .entry)) edition n at ⌝ }
 {
     match edge_at(s, n, at) {
@@ -97,7 +100,10 @@ pub fn table_edge_at(s: &[u8], edition: usize, n: usize, at: usize) -> TableEdge
             NumberRead::Fault(f) => TableEdgeRead::Fault(f),
             NumberRead::Got(firmness, q) => TableEdgeRead::Got(
                 TableEdge {
-                    edge: edge,
+                    from: edge.from as u8,
+                    to: edge.to as u8,
+                    gap: edge.gap as u8,
+                    weight: edge.weight as u8,
                     soft: firmness == SOFT,
                 },
                 q,

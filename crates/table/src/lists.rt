@@ -9,7 +9,6 @@ use crate::step::StepRead;
 use crate::step::step_at;
 use crate::types::Kind;
 use crate::types::Step;
-use graph::Edge;
 use graph::TableEdge;
 use outcome::Refusal;
 use outcome::Verdict;
@@ -58,12 +57,10 @@ pub fn blank_edges() -> EdgeArray
     ensures { λ r. ⌜ r ≡ replicate maxEdges noTableEdge ⌝ }
 {
     [TableEdge {
-        edge: Edge {
-            from: 0,
-            to: 0,
-            gap: 0,
-            weight: 0,
-        },
+        from: 0,
+        to: 0,
+        gap: 0,
+        weight: 0,
         soft: false,
     }; MAX_EDGES]
 }
@@ -116,7 +113,7 @@ fn many_steps(s: &[u8], at: usize, n: usize) -> Steps
 
 // m edges of a table of n steps, one behind the other.
 fn many_edges(s: &[u8], edition: usize, n: usize, at: usize, m: usize) -> Edges
-    requires { ⌜ m ≤ maxEdges ⌝ }
+    requires { ⌜ (n ≤ maxSteps) × (m ≤ maxEdges) ⌝ }
     ensures { λ r. ⌜ ListRead maxEdges noTableEdge (many (tableEdgeAt (now (s .entry)) edition n) m at) (r .verdict) (r .m) (r .list) (r .next) ⌝ }
 {
     let mut list = blank_edges();
@@ -150,6 +147,7 @@ pub fn steps_at(s: &[u8], at: usize) -> Steps
 
 // The count of edges, then the edges, of a table of n steps.
 pub fn edges_at(s: &[u8], edition: usize, n: usize, at: usize) -> Edges
+    requires { ⌜ n ≤ maxSteps ⌝ }
     ensures { λ r. ⌜ ListRead maxEdges noTableEdge (edgesAt (now (s .entry)) edition n at) (r .verdict) (r .m) (r .list) (r .next) ⌝ }
 {
     match number_in(s, at, 0, MAX_EDGES, Refusal::ManyEdges) {

@@ -62,7 +62,7 @@ loop-less c = omega arith
 
 loop-again : tie.Need-loop-again Inv-loop μ-loop
 loop-again c =
-    let l = c .before .before .before .before in
+    let l = c .before .before .before in
     let s = l .before in
     let inside : l .loop .i < length (s .args .t1) = omega (arith, s .pre) in
     let same = c .direct-edge .ensures ∙ sym (directed-get (s .args .t2) (s .args .t1) (l .loop .i) inside) in

@@ -41,31 +41,31 @@ abbrev T : Type 0
 T = tie.After-direct-edge Inv-loop μ-loop
 
 abbrev start : T → S
-start c = c .before .before .before .before .before .before .before .before
+start c = c .before .before .before .before .before .before .before
 
 abbrev ys-of : T → List ℕ
 ys-of c = now (start c .args .ys)
 
 abbrev index : T → ℕ
-index c = c .before .before .before .before .loop .i
+index c = c .before .before .before .loop .i
 
 abbrev edge : T → Edge
 edge c = c .direct-edge .result
 
 inside : (c : T) → index c < length (laid (start c))
-inside c = omega (arith, count (start c), c .before .before .before .loop-test .taken)
+inside c = omega (arith, count (start c), c .before .before .loop-test .taken)
 
 edge-is : (c : T) → getD (laid (start c)) (index c) noEdge ≡ edge c
-edge-is c = laid-edge (start c .args .t2) (start c .args .t1) (start c .args .m) (few (start c)) (index c) (c .before .before .before .loop-test .taken) (c .direct-edge .ensures)
+edge-is c = laid-edge (start c .args .t2) (start c .args .t1) (start c .args .m) (few (start c)) (index c) (c .before .before .loop-test .taken) (c .direct-edge .ensures)
 
 from-in : (c : T) → edge c .from < length (ys-of c)
-from-in c = subst (λ (e : Edge). e .from < length (ys-of c)) (edge-is c) (start c .pre .from-in (index c) (c .before .before .before .loop-test .taken))
+from-in c = subst (λ (e : Edge). e .from < length (ys-of c)) (edge-is c) (start c .pre .from-in (index c) (c .before .before .loop-test .taken))
 
 to-in : (c : T) → edge c .to < length (ys-of c)
-to-in c = subst (λ (e : Edge). e .to < length (ys-of c)) (edge-is c) (start c .pre .to-in (index c) (c .before .before .before .loop-test .taken))
+to-in c = subst (λ (e : Edge). e .to < length (ys-of c)) (edge-is c) (start c .pre .to-in (index c) (c .before .before .loop-test .taken))
 
 down : (c : T) → at (ys-of c) (edge c .from) < at (ys-of c) (edge c .to)
-down c = subst (λ (e : Edge). at (ys-of c) (e .from) < at (ys-of c) (e .to)) (edge-is c) (start c .pre .down (index c) (c .before .before .before .loop-test .taken))
+down c = subst (λ (e : Edge). at (ys-of c) (e .from) < at (ys-of c) (e .to)) (edge-is c) (start c .pre .down (index c) (c .before .before .loop-test .taken))
 
 -- the dummies of edge i are the next part
 owners-next : (c : T) → ownersOf (still (ys-of c) (laid (start c)) (index c)) ≡ map (λ (_ : ℕ). index c) (rowsBetween (ys-of c) (edge c)) ++ ownersOf (later (ys-of c) (laid (start c)) (index c))
@@ -75,11 +75,11 @@ rows-next : (c : T) → dummyRows (still (ys-of c) (laid (start c)) (index c)) �
 rows-next c = rows-turn (ys-of c) (laid (start c)) (index c) (inside c) (edge c) (edge-is c)
 
 -- and there is room for them
-owners-room : (c : T) → c .before .before .before .before .loop .next + (at (ys-of c) (edge c .to) - at (ys-of c) (edge c .from) - 1) ≤ length (c .before .before .before .before .loop .owners)
-owners-room c = omega (arith, owners-length (ys-of c) (edge c) (index c), writing-room (map (λ (_ : ℕ). index c) (rowsBetween (ys-of c) (edge c))) (ownersOf (later (ys-of c) (laid (start c)) (index c))) (owners-next c) (c .before .before .before .before .loop .inv .1))
+owners-room : (c : T) → c .before .before .before .loop .next + (at (ys-of c) (edge c .to) - at (ys-of c) (edge c .from) - 1) ≤ length (c .before .before .before .loop .owners)
+owners-room c = omega (arith, owners-length (ys-of c) (edge c) (index c), writing-room (map (λ (_ : ℕ). index c) (rowsBetween (ys-of c) (edge c))) (ownersOf (later (ys-of c) (laid (start c)) (index c))) (owners-next c) (c .before .before .before .loop .inv .1))
 
-rows-room : (c : T) → c .before .before .before .before .loop .next + (at (ys-of c) (edge c .to) - at (ys-of c) (edge c .from) - 1) ≤ length (c .before .before .before .before .loop .rows)
-rows-room c = omega (arith, between-length (ys-of c) (edge c), writing-room (rowsBetween (ys-of c) (edge c)) (dummyRows (later (ys-of c) (laid (start c)) (index c))) (rows-next c) (c .before .before .before .before .loop .inv .2))
+rows-room : (c : T) → c .before .before .before .loop .next + (at (ys-of c) (edge c .to) - at (ys-of c) (edge c .from) - 1) ≤ length (c .before .before .before .loop .rows)
+rows-room c = omega (arith, between-length (ys-of c) (edge c), writing-room (rowsBetween (ys-of c) (edge c)) (dummyRows (later (ys-of c) (laid (start c)) (index c))) (rows-next c) (c .before .before .before .loop .inv .2))
 
 -- ---- the needs
 
@@ -93,7 +93,7 @@ array-copy-out-e : tie.Need-array-copy-out-e Inv-loop μ-loop
 array-copy-out-e c = omega (arith, c .before .before .before .before .before .pre .few, c .loop-test .taken)
 
 array-read-direct-edge : tie.Need-array-read-direct-edge Inv-loop μ-loop
-array-read-direct-edge c = omega (arith, c .before .before .before .before .before .before .before .pre .few, c .before .before .loop-test .taken)
+array-read-direct-edge c = omega (arith, c .before .before .before .before .before .before .pre .few, c .before .loop-test .taken)
 
 direct-edge-requires : tie.Need-direct-edge-requires Inv-loop μ-loop
 direct-edge-requires c κs = search needs
@@ -122,7 +122,7 @@ loop-less c = search needs
 loop-again : tie.Need-loop-again Inv-loop μ-loop
 loop-again c =
     let t = c .before .before .before .before .before .before .before .before .before in
-    let at-loop = t .before .before .before .before in
+    let at-loop = t .before .before .before in
     (omega arith, writing-part (map (λ (_ : ℕ). index t) (rowsBetween (ys-of t) (edge t))) (ownersOf (later (ys-of t) (laid (start t)) (index t))) (owners-next t) (at-loop .loop .inv .1) (c .before .before .before .before .lay-edge .ensures .0), writing-part (rowsBetween (ys-of t) (edge t)) (dummyRows (later (ys-of t) (laid (start t)) (index t))) (rows-next t) (at-loop .loop .inv .2) (c .before .before .before .before .lay-edge .ensures .1))
 
 same-length : tie.Need-same-length Inv-loop μ-loop

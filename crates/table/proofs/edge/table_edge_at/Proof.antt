@@ -1,8 +1,10 @@
--- `edge::table_edge_at` meets its contract: an edge, then its firmness, as in `tableEdgeAt`.
+-- `edge::table_edge_at` meets its contract: an edge, then its firmness, as in `tableEdgeAt`; its numbers were judged, so that each fits a byte.
 use mathlib.Core.Path.{refl, sym, ap, _∙_}
 use Rattle.table.specs.Number.{numberRead}
 use Rattle.table.specs.Table.{tableEdgeAt}
 use Rattle.table.specs.Reads.{edgeRead}
+use native.Mathlib.Omega.{arith}
+use Rattle.table.proofs.FairLaws.{edge-narrow}
 use Rattle.table.proofs.ThenLaws.{then-fault, then-got}
 use Rattle.table.proofs.edge.table_edge_at.Statement.{statement}
 use Rattle.table.proofs.edge.table_edge_at.Tie as tie
@@ -25,6 +27,26 @@ enum-known-f-2 c = c .match2 .keys1
 enum-known-firmness : tie.Need-enum-known-firmness
 enum-known-firmness c = c .match2 .keys2
 
+cast-t15 : tie.Need-cast-t15
+cast-t15 c =
+    let l = c .before .before .before .before .before .before in
+    omega (arith, edge-narrow _ _ _ (l .before .before .before .before .pre) (sym (l .before .before .edge-at .ensures) ∙ ap edgeRead (l .edge .given .1)))
+
+cast-t16 : tie.Need-cast-t16
+cast-t16 c =
+    let l = c .before .before .before .before .before .before .before in
+    omega (arith, edge-narrow _ _ _ (l .before .before .before .before .pre) (sym (l .before .before .edge-at .ensures) ∙ ap edgeRead (l .edge .given .1)))
+
+cast-t17 : tie.Need-cast-t17
+cast-t17 c =
+    let l = c .before .before .before .before .before .before .before .before in
+    omega (arith, edge-narrow _ _ _ (l .before .before .before .before .pre) (sym (l .before .before .edge-at .ensures) ∙ ap edgeRead (l .edge .given .1)))
+
+cast-t18 : tie.Need-cast-t18
+cast-t18 c =
+    let l = c .before .before .before .before .before .before .before .before .before in
+    omega (arith, edge-narrow _ _ _ (l .before .before .before .before .pre) (sym (l .before .before .edge-at .ensures) ∙ ap edgeRead (l .edge .given .1)))
+
 returns : tie.Need-returns
 unfolding tableEdgeAt
 returns c = then-fault _ (sym (c .before .before .before .edge-at .ensures) ∙ ap edgeRead (c .before .f .given .1))
@@ -35,7 +57,11 @@ returns-2 c = then-got _ (sym (c .before .before .before .before .before .before
 
 returns-3 : tie.Need-returns-3
 unfolding tableEdgeAt
-returns-3 c = then-got _ (sym (c .before .before .before .before .before .before .before .edge-at .ensures) ∙ ap edgeRead (c .before .before .before .before .before .edge .given .1)) (then-got _ (sym (c .before .before .before .firmness-at .ensures) ∙ ap numberRead (c .before .firmness .given .1)) refl)
+returns-3 c =
+    let f = c .before .before .before .before .before in
+    let l = f .before .before .before .before in
+    then-got _ (sym (l .before .before .edge-at .ensures) ∙ ap edgeRead (l .edge .given .1))
+    (then-got _ (sym (f .before .before .firmness-at .ensures) ∙ ap numberRead (f .firmness .given .1)) refl)
 
 pub table-edge-at-spec : {M : Type 1} → statement M
 table-edge-at-spec =
@@ -47,6 +73,10 @@ table-edge-at-spec =
     firmness-at-requires
     enum-known-f-2
     enum-known-firmness
+    cast-t15
+    cast-t16
+    cast-t17
+    cast-t18
     returns
     returns-2
     returns-3)

@@ -25,7 +25,7 @@ loop-holds : tie.Need-loop-holds Inv-loop μ-loop
 loop-holds c = rw (c .blank-edges .ensures) (filling-start _ _ _ _ _)
 
 table-edge-at-requires : tie.Need-table-edge-at-requires Inv-loop μ-loop
-table-edge-at-requires c κs = tt
+table-edge-at-requires c κs = c .before .before .before .before .pre .0
 
 enum-known-f : tie.Need-enum-known-f Inv-loop μ-loop
 enum-known-f c = c .match .keys1
@@ -40,10 +40,10 @@ enum-known-edge : tie.Need-enum-known-edge Inv-loop μ-loop
 enum-known-edge c = c .match .keys2
 
 mul-list : tie.Need-mul-list Inv-loop μ-loop
-mul-list c = scaled _ _ maxEdges 0x28 (c .before .before .before .before .loop-test .taken) (c .before .before .before .before .before .before .before .before .pre) (lit< tt)
+mul-list c = scaled _ _ maxEdges 0x5 (c .before .before .before .before .loop-test .taken) (c .before .before .before .before .before .before .before .before .pre .1) (lit< tt)
 
 array-set-from-list : tie.Need-array-set-from-list Inv-loop μ-loop
-array-set-from-list c = lt-of-lt-of-le (c .before .before .before .before .loop-test .taken) (c .before .before .before .before .before .before .before .before .pre)
+array-set-from-list c = lt-of-lt-of-le (c .before .before .before .before .loop-test .taken) (c .before .before .before .before .before .before .before .before .pre .1)
 
 add-i : tie.Need-add-i Inv-loop μ-loop
 add-i c = next-fits _ _ (c .before .before .before .before .loop-test .taken) (c .before .before .before .before .before .before .before .before .fits .m)
@@ -52,10 +52,10 @@ loop-less : tie.Need-loop-less Inv-loop μ-loop
 loop-less c = nearer _ _ (c .before .before .before .before .loop-test .taken)
 
 loop-again : tie.Need-loop-again Inv-loop μ-loop
-loop-again c = filling-next _ _ _ _ _ _ _ _ (c .before .before .before .before .before .loop .inv) _ _ (c .before .before .before .before .before .before .before .before .pre) (c .before .before .before .before .loop-test .taken) (sym (c .before .before .before .table-edge-at .ensures) ∙ ap tableEdgeRead (c .before .edge .given .1))
+loop-again c = filling-next _ _ _ _ _ _ _ _ (c .before .before .before .before .before .loop .inv) _ _ (c .before .before .before .before .before .before .before .before .pre .1) (c .before .before .before .before .loop-test .taken) (sym (c .before .before .before .table-edge-at .ensures) ∙ ap tableEdgeRead (c .before .edge .given .1))
 
 returns-2 : tie.Need-returns-2 Inv-loop μ-loop
-returns-2 c = filling-end _ _ _ _ _ _ _ _ (c .before .loop .inv) (c .before .before .before .before .pre) (c .loop-test .left)
+returns-2 c = filling-end _ _ _ _ _ _ _ _ (c .before .loop .inv) (c .before .before .before .before .pre .1) (c .loop-test .left)
 
 pub many-edges-spec : {M : Type 1} → statement M
 many-edges-spec =

@@ -20,7 +20,7 @@ enum-told : tie.Need-enum-told
 enum-told c = c .match .keys2
 
 edges-at-requires : tie.Need-edges-at-requires
-edges-at-requires c κs = tt
+edges-at-requires c κs = c .before .before .steps-at .ensures .few
 
 enum-known-judged : tie.Need-enum-known-judged
 enum-known-judged c = c .match2 .keys1
