@@ -20,13 +20,13 @@ use Rattle.acyclic.proofs.StandingLaws.{Turn, must, kept, turned, turn-
 -- ---- no loop is left
 
 -- the ends of every edge of a table are two different nodes, of which there are n
-pub record Joins (n : ℕ) (e : TableEdge) : Type 0 where
+pub record EndsApart (n : ℕ) (e : TableEdge) : Type 0 where
   pub from-in : e .from < n
   pub to-in : e .to < n
   pub apart : e .from ≡ e .to → ⊥
 
-abbrev pub Joining : ℕ → List TableEdge → Type 0
-Joining n edges = (i : ℕ) → i < length edges → Joins n (getD edges i noTableEdge)
+abbrev pub AllApart : ℕ → List TableEdge → Type 0
+AllApart n edges = (i : ℕ) → i < length edges → EndsApart n (getD edges i noTableEdge)
 
 -- whatever holds of the must edges of a table
 pub must-each : (P : Edge → Type 0) (edges : List TableEdge)
@@ -46,7 +46,7 @@ within-cons : {n : ℕ} (e : Edge) (stand : List Edge) → e .from < n → e .to
 within-cons e stand f t w zero h = (f, t)
 within-cons e stand f t w (suc i) h = w i (le-of-suc-le-suc h)
 
-must-within : (n : ℕ) (edges : List TableEdge) → Joining n edges → Within n (mustOf edges)
+must-within : (n : ℕ) (edges : List TableEdge) → AllApart n edges → Within n (mustOf edges)
 must-within n edges j = must-each (λ (e : Edge). (e .from < n) × (e .to < n)) edges (λ i h f. (j i h .from-in, j i h .to-in))
 
 -- what stands has no loop, and its ends are nodes
@@ -55,7 +55,7 @@ record Sane (n : ℕ) (stand : List Edge) : Type 0 where
   within : Within n stand
 
 -- a soft edge joins only where nothing leads from its head to its tail
-turn-sane : (n : ℕ) (stand : List Edge) (e : TableEdge) → Joins n e → Sane n stand → {t : Bool} {next : List Edge} → Turn n stand e t next → Sane n next
+turn-sane : (n : ℕ) (stand : List Edge) (e : TableEdge) → EndsApart n e → Sane n stand → {t : Bool} {next : List Edge} → Turn n stand e t next → Sane n next
 turn-sane n stand e j s (must f) = s
 turn-sane n stand e j s (kept f g) =
     record {
@@ -64,7 +64,7 @@ turn-sane n stand e j s (kept f g) =
     }
 turn-sane n stand e j s (turned f g) = s
 
-after-sane : (n : ℕ) (stand : List Edge) (edges : List TableEdge) → Joining n edges → Sane n stand → Sane n (standingEnd n stand edges)
+after-sane : (n : ℕ) (stand : List Edge) (edges : List TableEdge) → AllApart n edges → Sane n stand → Sane n (standingEnd n stand edges)
 unfolding standingEnd
 after-sane n stand [] j s = s
 after-sane n stand (e ∷ edges) j s =
@@ -74,7 +74,7 @@ after-sane n stand (e ∷ edges) j s =
 -- Where the must edges have no loop, the edges as kept or turned have none. Those that stand in the end have none: a soft edge joined
 -- them only where it closed no loop. An edge that was turned runs along a walk over them, so a walk over all edges as kept or turned can be
 -- replaced, edge by edge, by one over those that stand; a loop would become a loop of theirs.
-pub oriented-free : (n : ℕ) (edges : List TableEdge) → Joining n edges → LoopFree (mustOf edges) → LoopFree (orientedEdges n edges)
+pub oriented-free : (n : ℕ) (edges : List TableEdge) → AllApart n edges → LoopFree (mustOf edges) → LoopFree (orientedEdges n edges)
 unfolding oriented
 oriented-free n edges j f =
     runs-free (oriented-runs n (mustOf edges) edges (must-stood edges))
@@ -163,7 +163,7 @@ module _ (n : ℕ) (edges : List TableEdge) where
 -- ---- what the row finder asks
 
 -- the edges as kept or turned join the same nodes
-pub oriented-within : (n : ℕ) (edges : List TableEdge) → Joining n edges → Within n (orientedEdges n edges)
+pub oriented-within : (n : ℕ) (edges : List TableEdge) → AllApart n edges → Within n (orientedEdges n edges)
 oriented-within n edges j i h =
     rw (List·getD-map (λ (e : OrientedEdge). e .edge) (oriented n edges) i noOrientedEdge, oriented-edge n edges i inside)
     (go (getD (oriented n edges) i noOrientedEdge .turned))
@@ -176,7 +176,7 @@ oriented-within n edges j i h =
     go false = (j i inside .from-in, j i inside .to-in)
 
 -- where the must edges have no lowest node on a loop, the edges as kept or turned have none
-pub oriented-none : (n : ℕ) (edges : List TableEdge) → Joining n edges → lowestOnLoop n (mustOf edges) ≡ none
+pub oriented-none : (n : ℕ) (edges : List TableEdge) → AllApart n edges → lowestOnLoop n (mustOf edges) ≡ none
     → lowestOnLoop n (orientedEdges n edges) ≡ none
 oriented-none n edges j e =
     free-iff n (orientedEdges n edges) (oriented-within n edges j) .0

@@ -21,7 +21,7 @@ use Rattle.buffers.specs.Padded.{padded}
 use Rattle.buffers.proofs.PaddedLaws.{padded-long}
 use Rattle.acyclic.specs.Loops.{lowestOnLoop}
 use Rattle.acyclic.specs.Oriented.{mustOf, anySoft, orientedEdges, turnedEdges}
-use Rattle.acyclic.proofs.OrientedLaws.{Joining, oriented-none, firm-plain, firm-turned, firm-must, turned-length, directed-oriented}
+use Rattle.acyclic.proofs.OrientedLaws.{AllApart, oriented-none, firm-plain, firm-turned, firm-must, turned-length, directed-oriented}
 use Rattle.orientation.specs.Orientable.{Orientable}
 use Rattle.rows.specs.declared.types.RowsFound.{RowsFound}
 use Rattle.rows.specs.Answers.{unlessLoop, rowsFound}
@@ -94,7 +94,7 @@ module _ (n : ℕ) (edges : List TableEdge) (fair : FairTable n edges) where
   pub oriented-fair : FairEdges n (orientedEdges n edges)
   oriented-fair = subst (FairEdges n) (directed-oriented n edges) (directed-edges-fair (turnedEdges n edges))
 
-  fair-joining : Joining n edges
+  fair-joining : AllApart n edges
   fair-joining i h =
       let f = fair .each i h in record { from-in = f .from-in; to-in = f .to-in; apart = λ q. f .apart (sym q) }
 

@@ -9,14 +9,14 @@ use lib.ListN.{length, replicate, length-replicate}
 use Rattle.graph.specs.declared.TableEdge.{TableEdge}
 use Rattle.table.specs.Limits.{maxSteps}
 use Rattle.orientation.specs.Orientable.{Orientable}
-use Rattle.orientation.specs.Closure.{Room}
+use Rattle.orientation.specs.Closure.{MatrixRoom}
 
 -- a row ends where the next begins, and the rows below it end before it
 row-below : (n u w : ℕ) → u < w → u * n + n ≤ w * n
 row-below n u w h = omega (arith, mul-le-mul-right n h, suc-mul u n)
 
 -- so every row is inside the matrix
-pub row-room : (n u : ℕ) → u < n → (reach : List ℕ) → Room n reach → u * n + n ≤ length reach
+pub row-room : (n u : ℕ) → u < n → (reach : List ℕ) → MatrixRoom n reach → u * n + n ≤ length reach
 row-room n u row reach room = omega (arith, row-below n u n row, room .room)
 
 -- a place before a row or behind it
@@ -34,10 +34,10 @@ cell-apart n u w v h ne = go (decLt w u) (decLt u w)
     go (no l) (no k) = absurd (ne (omega arith))
 
 -- room is a matter of the length
-pub room-same : {n : ℕ} {old new : List ℕ} → length new ≡ length old → Room n old → Room n new
+pub room-same : {n : ℕ} {old new : List ℕ} → length new ≡ length old → MatrixRoom n old → MatrixRoom n new
 room-same e r = record { room = omega (arith, r .room) }
 
 -- a matrix of the limit's size has room for any number of steps
-pub orientable-cells : {n m : ℕ} {edges : List TableEdge} → Orientable n m edges → Room n (replicate (maxSteps * maxSteps) 0)
+pub orientable-cells : {n m : ℕ} {edges : List TableEdge} → Orientable n m edges → MatrixRoom n (replicate (maxSteps * maxSteps) 0)
 orientable-cells {n} o =
     record { room = omega (arith, length-replicate {A = ℕ} (maxSteps * maxSteps) 0, mul-le-mul-right n (o .few-steps), mul-le-mul-left maxSteps (o .few-steps)) }

@@ -16,14 +16,14 @@ use Rattle.buffers.proofs.ListLaws.{zero-at}
 use Rattle.acyclic.specs.Loops.{Walk}
 use Rattle.acyclic.specs.Loops as loops
 use Rattle.acyclic.proofs.RunLaws.{Reach, walk-join, walk-replace, runs-cons, runs-same, walk-later, walk-split, walk-over}
-use Rattle.orientation.specs.Closure.{Row, Closure, Fresh, Onward, either, Marked, RowExtended, Extended, Added}
+use Rattle.orientation.specs.Closure.{ClosureRow, Closure, Fresh, OnwardMarks, either, RowMarked, RowExtended, Extended, Added}
 use Rattle.orientation.proofs.CellLaws.{Apart, before, behind, cell-apart}
 
 -- ---- one row
 
 -- a row is a matter of its own marks
 pub row-same : {n : ℕ} {stand : List Edge} {u : ℕ} {old new : List ℕ} → ((v : ℕ) → v < n → at new (u * n + v) ≡ at old (u * n + v))
-    → Row n stand u old → Row n stand u new
+    → ClosureRow n stand u old → ClosureRow n stand u new
 row-same same r =
     record { sound = λ v h p. r .sound v h (omega (arith, same v h)); full = λ v h w. omega (arith, same v h, r .full v h w) }
 
@@ -46,7 +46,7 @@ module _ (fresh old : ℕ) where
       go false e = inr (rw e at p)
 
 -- b itself and row b are what is onward from b
-pub fresh-onward : (n : ℕ) (stand : List Edge) (b : ℕ) (reach fresh : List ℕ) → Fresh n b reach fresh → Row n stand b reach → Onward n stand b fresh
+pub fresh-onward : (n : ℕ) (stand : List Edge) (b : ℕ) (reach fresh : List ℕ) → Fresh n b reach fresh → ClosureRow n stand b reach → OnwardMarks n stand b fresh
 fresh-onward n stand b reach fresh f r =
     record { sound = λ v h p. there v h p (ℕ-discrete v b); full = λ v h w. back v h w (ℕ-discrete v b) }
   where
@@ -62,9 +62,9 @@ fresh-onward n stand b reach fresh f r =
 -- A walk with the new edge goes without it, or without it to the edge's tail and without it on from its head. So row u has nothing new where
 -- it marks the edge's head already, for it then has all that is onward from there; nor where u is not the tail and does not lead to it. In
 -- any other case it gets what is onward from the head, and a walk over the edge backs each of these marks.
-module _ (n : ℕ) (stand : List Edge) (e : Edge) (u : ℕ) (old : List ℕ) (r : Row n stand u old) where
+module _ (n : ℕ) (stand : List Edge) (e : Edge) (u : ℕ) (old : List ℕ) (r : ClosureRow n stand u old) where
   -- the row stays where it marks all that the edge opens a way to
-  row-kept : ((v : ℕ) → v < n → Reach stand u (e .from) → Reach stand (e .to) v → 0 < at old (u * n + v)) → Row n (e ∷ stand) u old
+  row-kept : ((v : ℕ) → v < n → Reach stand u (e .from) → Reach stand (e .to) v → 0 < at old (u * n + v)) → ClosureRow n (e ∷ stand) u old
   row-kept k =
       record {
         sound = λ v h p. walk-later e stand (r .sound v h p);
@@ -72,7 +72,7 @@ module _ (n : ℕ) (stand : List Edge) (e : Edge) (u : ℕ) (old : List ℕ) (r 
       }
 
   -- the row marks the head
-  pub row-has : e .to < n → 0 < at old (u * n + e .to) → Row n (e ∷ stand) u old
+  pub row-has : e .to < n → 0 < at old (u * n + e .to) → ClosureRow n (e ∷ stand) u old
   row-has inside p = row-kept (λ v h _ q. onto v h q)
     where
       onto : (v : ℕ) → v < n → Reach stand (e .to) v → 0 < at old (u * n + v)
@@ -80,7 +80,7 @@ module _ (n : ℕ) (stand : List Edge) (e : Edge) (u : ℕ) (old : List ℕ) (r 
       onto v h (inr w) = r .full v h (walk-join (r .sound (e .to) inside p) w)
 
   -- u is not the tail and does not lead to it
-  pub row-away : e .from < n → (u ≡ e .from → ⊥) → at old (u * n + e .from) ≡ 0 → Row n (e ∷ stand) u old
+  pub row-away : e .from < n → (u ≡ e .from → ⊥) → at old (u * n + e .from) ≡ 0 → ClosureRow n (e ∷ stand) u old
   row-away inside ne z = row-kept (λ v h q _. absurd (never q))
     where
       never : Reach stand u (e .from) → ⊥
@@ -88,8 +88,8 @@ module _ (n : ℕ) (stand : List Edge) (e : Edge) (u : ℕ) (old : List ℕ) (r 
       never (inr w) = omega (arith, r .full (e .from) inside w)
 
   -- u is the tail or leads to it
-  pub row-marked : (fresh new : List ℕ) → Reach stand u (e .from) → Onward n stand (e .to) fresh → Marked (u * n) n fresh old new
-      → Row n (e ∷ stand) u new
+  pub row-marked : (fresh new : List ℕ) → Reach stand u (e .from) → OnwardMarks n stand (e .to) fresh → RowMarked (u * n) n fresh old new
+      → ClosureRow n (e ∷ stand) u new
   row-marked fresh new comes on m =
       record {
         sound = λ v h p. backed v h (either-back (at fresh v) (at old (u * n + v)) (subst (λ (x : ℕ). 0 < x) (m .inside v h) p));
@@ -108,7 +108,7 @@ module _ (n : ℕ) (stand : List Edge) (e : Edge) (u : ℕ) (old : List ℕ) (r 
 
 -- what is enough where the row stays as it is
 extended-still : (n a b u : ℕ) (fresh old : List ℕ)
-    → ((stand : List Edge) (e : Edge) → e .from ≡ a → e .to ≡ b → Row n stand u old → Row n (e ∷ stand) u old)
+    → ((stand : List Edge) (e : Edge) → e .from ≡ a → e .to ≡ b → ClosureRow n stand u old → ClosureRow n (e ∷ stand) u old)
     → RowExtended n a b u fresh old old
 extended-still n a b u fresh old k =
     record { long = refl; others = λ w v h l ne. refl; row = λ stand e f t on r. k stand e f t r }
@@ -124,20 +124,20 @@ module _ (n a b u : ℕ) (fresh old : List ℕ) (in-a : a < n) (in-b : b < n) wh
       extended-still n a b u fresh old
       (λ stand e f t r. row-away n stand e u old r (omega arith) (λ s. ne (s ∙ f)) (subst (λ (k : ℕ). at old (u * n + k) ≡ 0) (sym f) z))
 
-  pub extended-marked : (new : List ℕ) → (u ≡ a) ⊎ (0 < at old (u * n + a)) → Marked (u * n) n fresh old new → RowExtended n a b u fresh old new
+  pub extended-marked : (new : List ℕ) → (u ≡ a) ⊎ (0 < at old (u * n + a)) → RowMarked (u * n) n fresh old new → RowExtended n a b u fresh old new
   extended-marked new comes m =
       record {
         long = m .long;
         others = λ w v h l ne. other w v (cell-apart n u w v l ne);
         row = λ stand e f t on r.
-            row-marked n stand e u old r fresh new (way stand e f r comes) (subst (λ (k : ℕ). Onward n stand k fresh) (sym t) on) m;
+            row-marked n stand e u old r fresh new (way stand e f r comes) (subst (λ (k : ℕ). OnwardMarks n stand k fresh) (sym t) on) m;
       }
     where
       other : (w v : ℕ) → Apart n u (w * n + v) → at new (w * n + v) ≡ at old (w * n + v)
       other w v (before l) = m .before (w * n + v) l
       other w v (behind l) = m .behind (w * n + v) l
 
-      way : (stand : List Edge) (e : Edge) → e .from ≡ a → Row n stand u old → (u ≡ a) ⊎ (0 < at old (u * n + a)) → Reach stand u (e .from)
+      way : (stand : List Edge) (e : Edge) → e .from ≡ a → ClosureRow n stand u old → (u ≡ a) ⊎ (0 < at old (u * n + a)) → Reach stand u (e .from)
       way stand e f r (inl s) = inl (s ∙ sym f)
       way stand e f r (inr p) = inr (subst (Walk stand u) (sym f) (r .sound a in-a p))
 
@@ -156,11 +156,11 @@ rows-more {n} {a} {b} {k} {fresh} {old} {now} {new} inside x y =
       rows = λ stand e f t on u l h r. each stand e f t on u l h r (ℕ-discrete u k);
     }
   where
-    each : (stand : List Edge) (e : Edge) → e .from ≡ a → e .to ≡ b → Onward n stand b fresh
-        → (u : ℕ) → u < k + 1 → u < n → Row n stand u old → Dec (u ≡ k) → Row n (e ∷ stand) u new
+    each : (stand : List Edge) (e : Edge) → e .from ≡ a → e .to ≡ b → OnwardMarks n stand b fresh
+        → (u : ℕ) → u < k + 1 → u < n → ClosureRow n stand u old → Dec (u ≡ k) → ClosureRow n (e ∷ stand) u new
     each stand e f t on u l h r (yes s) =
-        subst (λ (j : ℕ). Row n (e ∷ stand) j new) (sym s)
-        (y .row stand e f t on (row-same (λ v i. x .rest k v (omega arith) inside i) (subst (λ (j : ℕ). Row n stand j old) s r)))
+        subst (λ (j : ℕ). ClosureRow n (e ∷ stand) j new) (sym s)
+        (y .row stand e f t on (row-same (λ v i. x .rest k v (omega arith) inside i) (subst (λ (j : ℕ). ClosureRow n stand j old) s r)))
     each stand e f t on u l h r (no ne) = row-same (λ v i. y .others u v h i ne) (x .rows stand e f t on u (omega arith) h r)
 
 pub rows-all : {n a b k : ℕ} {fresh old new : List ℕ} → k ≡ n → Extended n a b k fresh old new → Extended n a b n fresh old new
@@ -194,7 +194,7 @@ module _ (n a b : ℕ) (old : List ℕ) (in-a : a < n) (in-b : b < n) where
             record { row = λ u h. row stand e f t c u h; within = within-more e stand (omega arith) (omega arith) (c .within) };
       }
     where
-      row : (stand : List Edge) (e : Edge) → e .from ≡ a → e .to ≡ b → Closure n stand old → (u : ℕ) → u < n → Row n (e ∷ stand) u old
+      row : (stand : List Edge) (e : Edge) → e .from ≡ a → e .to ≡ b → Closure n stand old → (u : ℕ) → u < n → ClosureRow n (e ∷ stand) u old
       row stand e f t c u h =
           record {
             sound = λ v l q. walk-later e stand (c .row u h .sound v l q);

@@ -19,7 +19,7 @@ use Rattle.buffers.proofs.ListLaws.{blank-at}
 use Rattle.acyclic.specs.Oriented.{OrientedEdge, mustOf, leads, turns, standAfter, orientedFrom, oriented, turnedEdges}
 use Rattle.acyclic.proofs.StandingLaws.{leads-walk, leads-none}
 use Rattle.orientation.specs.Orientable.{Orientable}
-use Rattle.orientation.specs.Closure.{Closure, Added, MustPut, Judged}
+use Rattle.orientation.specs.Closure.{Closure, Added, MustPut, TurnJudged}
 use Rattle.orientation.proofs.SoftLaws.{edges-from, edges-past}
 
 -- the first m edges are inside the array
@@ -70,12 +70,12 @@ putting-all {n} {m} {edges} {i} {reach} h p =
 
 -- A soft edge closes a loop exactly where a walk over the edges that stand leads from its head to its tail, and that mark says so.
 module _ (n : ℕ) (e : TableEdge) (old : List ℕ) where
-  pub judged-must : e .soft ≡ false → Judged n e old old false
+  pub judged-must : e .soft ≡ false → TurnJudged n e old old false
   unfolding turns standAfter
   judged-must f = record { long = refl; says = λ stand c. rw f refl; stands = λ stand c. rw f c }
 
   module _ (soft : e .soft ≡ true) (fair : FairEdge n (ownEdge e)) where
-    pub judged-turned : 0 < at old (e .to * n + e .from) → Judged n e old old true
+    pub judged-turned : 0 < at old (e .to * n + e .from) → TurnJudged n e old old true
     unfolding turns standAfter
     judged-turned p = record { long = refl; says = λ stand c. rw soft (sym (closes stand c)); stands = λ stand c. rw soft c }
       where
@@ -83,7 +83,7 @@ module _ (n : ℕ) (e : TableEdge) (old : List ℕ) where
         closes stand c = leads-walk n stand _ _ (c .within) (c .row (e .to) (fair .to-in) .sound (e .from) (fair .from-in) p)
 
     pub judged-kept : {new : List ℕ} → at old (e .to * n + e .from) ≡ 0 → Added n (e .from) (e .to) old new
-        → Judged n e old new false
+        → TurnJudged n e old new false
     unfolding turns standAfter
     judged-kept z a =
         record {
@@ -125,7 +125,7 @@ seam n front stand e rest r s =
 
 module _ {n m : ℕ} {edges : List TableEdge} {i : ℕ} {reach : List ℕ} {turned : List Bool}
     (g : Judging n m edges i reach turned) (few : m ≤ maxEdges) (room : m ≤ length edges) where
-  pub judging-more : {new : List ℕ} {r : Bool} → i < m → Judged n (getD edges i noTableEdge) reach new r → Judging n m edges (i + 1) new (set turned i r)
+  pub judging-more : {new : List ℕ} {r : Bool} → i < m → TurnJudged n (getD edges i noTableEdge) reach new r → Judging n m edges (i + 1) new (set turned i r)
   judging-more {new} {r} h j =
       record {
         stand = standAfter r (getD edges i noTableEdge) (g .stand);

@@ -8,15 +8,15 @@ use Rattle.graph.specs.Rows.{at}
 use Rattle.table.specs.Limits.{maxSteps}
 use Rattle.buffers.proofs.ListLaws.{hit, miss, set-cases}
 use Rattle.buffers.proofs.CopyLaws.{Copied}
-use Rattle.orientation.specs.Closure.{Fresh, either, Marked}
+use Rattle.orientation.specs.Closure.{Fresh, either, RowMarked}
 
-pub marked-none : (base : ℕ) (fresh old : List ℕ) → Marked base 0 fresh old old
+pub marked-none : (base : ℕ) (fresh old : List ℕ) → RowMarked base 0 fresh old old
 marked-none base fresh old =
     record { long = refl; inside = λ v h. absurd (omega arith); before = λ i h. refl; behind = λ i h. refl }
 
 -- one mark more
 pub marked-more : {base k : ℕ} {fresh old now : List ℕ} (x : ℕ) → base + k < length now → x ≡ either (at fresh k) (at now (base + k))
-    → Marked base k fresh old now → Marked base (k + 1) fresh old (set now (base + k) x)
+    → RowMarked base k fresh old now → RowMarked base (k + 1) fresh old (set now (base + k) x)
 marked-more {base} {k} {fresh} {old} {now} x room e m =
     record {
       long = length-set now (base + k) x ∙ m .long;
@@ -38,8 +38,8 @@ marked-more {base} {k} {fresh} {old} {now} x room e m =
     lower : (v : ℕ) → v < k + 1 → (base + v ≡ base + k → ⊥) → v < k
     lower v h ne = omega (arith, ne)
 
-pub marked-all : {base k n : ℕ} {fresh old now : List ℕ} → k ≡ n → Marked base k fresh old now → Marked base n fresh old now
-marked-all {base} {k} {n} {fresh} {old} {now} e m = subst (λ (j : ℕ). Marked base j fresh old now) e m
+pub marked-all : {base k n : ℕ} {fresh old now : List ℕ} → k ≡ n → RowMarked base k fresh old now → RowMarked base n fresh old now
+marked-all {base} {k} {n} {fresh} {old} {now} e m = subst (λ (j : ℕ). RowMarked base j fresh old now) e m
 
 -- a copy of row b with b marked
 pub fresh-is : (n b : ℕ) (reach fresh : List ℕ) {k : ℕ} → b < n → n ≤ maxSteps → n ≤ k → Copied maxSteps (λ (j : ℕ). at reach (b * n + j)) k fresh

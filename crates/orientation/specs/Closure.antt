@@ -15,17 +15,17 @@ use Rattle.acyclic.specs.Loops.{Walk}
 use Rattle.acyclic.specs.Oriented.{turns, standAfter}
 
 -- row u marks the nodes that a walk leads to from u, and no others
-pub record Row (n : ℕ) (stand : List Edge) (u : ℕ) (reach : List ℕ) : Type 0 where
+pub record ClosureRow (n : ℕ) (stand : List Edge) (u : ℕ) (reach : List ℕ) : Type 0 where
   pub sound : (v : ℕ) → v < n → 0 < at reach (u * n + v) → Walk stand u v
   pub full : (v : ℕ) → v < n → Walk stand u v → 0 < at reach (u * n + v)
 
 -- every row does
 pub record Closure (n : ℕ) (stand : List Edge) (reach : List ℕ) : Type 0 where
-  pub row : (u : ℕ) → u < n → Row n stand u reach
+  pub row : (u : ℕ) → u < n → ClosureRow n stand u reach
   pub within : Within n stand
 
 -- room for the matrix
-pub record Room (n : ℕ) (reach : List ℕ) : Type 0 where
+pub record MatrixRoom (n : ℕ) (reach : List ℕ) : Type 0 where
   pub room : n * n ≤ length reach
 
 -- marks of one row: b, and what row b marks
@@ -35,7 +35,7 @@ pub record Fresh (n b : ℕ) (reach fresh : List ℕ) : Type 0 where
   pub other : (v : ℕ) → v < n → (v ≡ b → ⊥) → at fresh v ≡ at reach (b * n + v)
 
 -- those are b and the nodes that a walk leads to from b
-pub record Onward (n : ℕ) (stand : List Edge) (b : ℕ) (fresh : List ℕ) : Type 0 where
+pub record OnwardMarks (n : ℕ) (stand : List Edge) (b : ℕ) (fresh : List ℕ) : Type 0 where
   pub sound : (v : ℕ) → v < n → 0 < at fresh v → (b ≡ v) ⊎ Walk stand b v
   pub full : (v : ℕ) → v < n → (b ≡ v) ⊎ Walk stand b v → 0 < at fresh v
 
@@ -44,7 +44,7 @@ unfoldable pub either : ℕ → ℕ → ℕ
 either fresh old = cond (ltb 0 fresh) 1 old
 
 -- k entries from base on are set where fresh is, and no others
-pub record Marked (base k : ℕ) (fresh old new : List ℕ) : Type 0 where
+pub record RowMarked (base k : ℕ) (fresh old new : List ℕ) : Type 0 where
   pub long : length new ≡ length old
   pub inside : (v : ℕ) → v < k → at new (base + v) ≡ either (at fresh v) (at old (base + v))
   pub before : (i : ℕ) → i < base → at new i ≡ at old i
@@ -54,14 +54,14 @@ pub record Marked (base k : ℕ) (fresh old new : List ℕ) : Type 0 where
 pub record RowExtended (n a b u : ℕ) (fresh old new : List ℕ) : Type 0 where
   pub long : length new ≡ length old
   pub others : (w v : ℕ) → w < n → v < n → (w ≡ u → ⊥) → at new (w * n + v) ≡ at old (w * n + v)
-  pub row : (stand : List Edge) (e : Edge) → e .from ≡ a → e .to ≡ b → Onward n stand b fresh → Row n stand u old → Row n (e ∷ stand) u new
+  pub row : (stand : List Edge) (e : Edge) → e .from ≡ a → e .to ≡ b → OnwardMarks n stand b fresh → ClosureRow n stand u old → ClosureRow n (e ∷ stand) u new
 
 -- and so are the first k rows
 pub record Extended (n a b k : ℕ) (fresh old new : List ℕ) : Type 0 where
   pub long : length new ≡ length old
   pub rest : (w v : ℕ) → k ≤ w → w < n → v < n → at new (w * n + v) ≡ at old (w * n + v)
-  pub rows : (stand : List Edge) (e : Edge) → e .from ≡ a → e .to ≡ b → Onward n stand b fresh
-      → (u : ℕ) → u < k → u < n → Row n stand u old → Row n (e ∷ stand) u new
+  pub rows : (stand : List Edge) (e : Edge) → e .from ≡ a → e .to ≡ b → OnwardMarks n stand b fresh
+      → (u : ℕ) → u < k → u < n → ClosureRow n stand u old → ClosureRow n (e ∷ stand) u new
 
 -- the matrix is right with one edge more, from a to b
 pub record Added (n a b : ℕ) (old new : List ℕ) : Type 0 where
@@ -75,7 +75,7 @@ pub record MustPut (n : ℕ) (e : TableEdge) (old new : List ℕ) : Type 0 where
   pub soft : e .soft ≡ true → new ≡ old
 
 -- whether an edge is turned, and the matrix of the edges that stand after it
-pub record Judged (n : ℕ) (e : TableEdge) (old new : List ℕ) (turned : Bool) : Type 0 where
+pub record TurnJudged (n : ℕ) (e : TableEdge) (old new : List ℕ) (turned : Bool) : Type 0 where
   pub long : length new ≡ length old
   pub says : (stand : List Edge) → Closure n stand old → turned ≡ turns n stand e
   pub stands : (stand : List Edge) → Closure n stand old → Closure n (standAfter turned e stand) new

@@ -13,12 +13,12 @@ ghost use Rattle.table.specs.Fair.{FairEdge};
 ghost use Rattle.buffers.specs.Padded.{padded};
 ghost use Rattle.acyclic.specs.Oriented.{mustOf, turnedEdges};
 ghost use Rattle.orientation.specs.Orientable.{Orientable};
-ghost use Rattle.orientation.specs.Closure.{Room, Closure, MustPut, Judged};
+ghost use Rattle.orientation.specs.Closure.{MatrixRoom, Closure, MustPut, TurnJudged};
 
 // The must edges of the first m edges put in. The order makes no difference to the walks; from the last to the first, each comes in front of
 // those behind it, as in the list of the definition.
 pub fn put_must(edges: [TableEdge; MAX_EDGES], m: usize, n: usize, reach: &mut [u8])
-    requires { ⌜ Orientable n m edges × Room n (now reach) ⌝ }
+    requires { ⌜ Orientable n m edges × MatrixRoom n (now reach) ⌝ }
     requires { ⌜ Closure n [] (now reach) ⌝ }
     ensures { λ _. ⌜ (length (now (reach .exit)) ≡ length (now (reach .entry))) × Closure n (mustOf (take m edges)) (now (reach .exit)) ⌝ }
 {
@@ -31,7 +31,7 @@ pub fn put_must(edges: [TableEdge; MAX_EDGES], m: usize, n: usize, reach: &mut [
 
 // An edge put in if it is a must edge.
 fn put_edge(e: TableEdge, n: usize, reach: &mut [u8])
-    requires { ⌜ (n ≤ maxSteps) × Room n (now reach) ⌝ }
+    requires { ⌜ (n ≤ maxSteps) × MatrixRoom n (now reach) ⌝ }
     requires { ⌜ FairEdge n (ownEdge e) ⌝ }
     ensures { λ _. ⌜ MustPut n e (now (reach .entry)) (now (reach .exit)) ⌝ }
 {
@@ -48,7 +48,7 @@ pub fn judge_edges(
     n: usize,
     reach: &mut [u8],
 ) -> [bool; MAX_EDGES]
-    requires { ⌜ Orientable n m edges × Room n (now reach) ⌝ }
+    requires { ⌜ Orientable n m edges × MatrixRoom n (now reach) ⌝ }
     requires { ⌜ Closure n (mustOf (take m edges)) (now reach) ⌝ }
     ensures { λ r. ⌜ r ≡ padded maxEdges false (turnedEdges n (take m edges)) ⌝ }
 {
@@ -61,9 +61,9 @@ pub fn judge_edges(
 
 // Whether an edge is turned. A soft edge closes a loop where a walk leads from its head to its tail; any other is kept and put in.
 fn judge_edge(e: TableEdge, n: usize, reach: &mut [u8]) -> bool
-    requires { ⌜ (n ≤ maxSteps) × Room n (now reach) ⌝ }
+    requires { ⌜ (n ≤ maxSteps) × MatrixRoom n (now reach) ⌝ }
     requires { ⌜ FairEdge n (ownEdge e) ⌝ }
-    ensures { λ r. ⌜ Judged n e (now (reach .entry)) (now (reach .exit)) r ⌝ }
+    ensures { λ r. ⌜ TurnJudged n e (now (reach .entry)) (now (reach .exit)) r ⌝ }
 {
     if !e.soft {
         return false;

@@ -5,7 +5,7 @@ ghost use mathlib.Core.Path.{_≡_};
 ghost use Prim.Native.Nat.{_+_, _*_, _≤_, _<_};
 ghost use lib.ListN.{length};
 ghost use Rattle.table.specs.Limits.{maxSteps};
-ghost use Rattle.orientation.specs.Closure.{Room, Fresh, either, Marked, RowExtended, Extended, Added};
+ghost use Rattle.orientation.specs.Closure.{MatrixRoom, Fresh, either, RowMarked, RowExtended, Extended, Added};
 
 // How many marks a matrix has at most.
 pub const CELLS: usize = MAX_STEPS * MAX_STEPS;
@@ -13,7 +13,7 @@ pub const CELLS: usize = MAX_STEPS * MAX_STEPS;
 // The edge from a to b put in. Where a walk leads from a to b already it opens no way. Else whatever leads to a leads on to b, and to all
 // that is onward from b.
 pub fn add_edge(reach: &mut [u8], n: usize, a: usize, b: usize)
-    requires { ⌜ (n ≤ maxSteps) × Room n (now reach) ⌝ }
+    requires { ⌜ (n ≤ maxSteps) × MatrixRoom n (now reach) ⌝ }
     requires { ⌜ (a < n) × (b < n) ⌝ }
     ensures { λ _. ⌜ Added n a b (now (reach .entry)) (now (reach .exit)) ⌝ }
 {
@@ -26,7 +26,7 @@ pub fn add_edge(reach: &mut [u8], n: usize, a: usize, b: usize)
 
 // The marks of b itself and of row b.
 fn onward_from(reach: &[u8], n: usize, b: usize) -> [u8; MAX_STEPS]
-    requires { ⌜ (n ≤ maxSteps) × Room n (now reach) ⌝ }
+    requires { ⌜ (n ≤ maxSteps) × MatrixRoom n (now reach) ⌝ }
     requires { ⌜ b < n ⌝ }
     ensures { λ r. ⌜ Fresh n b (now (reach .entry)) r ⌝ }
 {
@@ -41,7 +41,7 @@ fn onward_from(reach: &[u8], n: usize, b: usize) -> [u8; MAX_STEPS]
 
 // Every row extended by the edge from a to b. The marks that are new come from a copy of row b, since row b may itself be extended.
 fn extend_rows(reach: &mut [u8], fresh: &[u8], n: usize, a: usize, b: usize)
-    requires { ⌜ Room n (now reach) × (n ≤ length (now fresh)) ⌝ }
+    requires { ⌜ MatrixRoom n (now reach) × (n ≤ length (now fresh)) ⌝ }
     requires { ⌜ (a < n) × (b < n) ⌝ }
     ensures { λ _. ⌜ Extended n a b n (now (fresh .entry)) (now (reach .entry)) (now (reach .exit)) ⌝ }
 {
@@ -50,9 +50,9 @@ fn extend_rows(reach: &mut [u8], fresh: &[u8], n: usize, a: usize, b: usize)
     }
 }
 
-// Row u extended by the edge from a to b, if u is a or leads to it. A row that marks b marks all that is onward from b already.
+// ClosureRow u extended by the edge from a to b, if u is a or leads to it. A row that marks b marks all that is onward from b already.
 fn extend_row(reach: &mut [u8], fresh: &[u8], n: usize, a: usize, b: usize, u: usize)
-    requires { ⌜ Room n (now reach) × (n ≤ length (now fresh)) ⌝ }
+    requires { ⌜ MatrixRoom n (now reach) × (n ≤ length (now fresh)) ⌝ }
     requires { ⌜ (a < n) × (b < n) × (u < n) ⌝ }
     ensures { λ _. ⌜ RowExtended n a b u (now (fresh .entry)) (now (reach .entry)) (now (reach .exit)) ⌝ }
 {
@@ -71,7 +71,7 @@ fn extend_row(reach: &mut [u8], fresh: &[u8], n: usize, a: usize, b: usize, u: u
 // The n marks from base on set where those of fresh are.
 fn mark_row(reach: &mut [u8], fresh: &[u8], base: usize, n: usize)
     requires { ⌜ (base + n ≤ length (now reach)) × (n ≤ length (now fresh)) ⌝ }
-    ensures { λ _. ⌜ Marked base n (now (fresh .entry)) (now (reach .entry)) (now (reach .exit)) ⌝ }
+    ensures { λ _. ⌜ RowMarked base n (now (fresh .entry)) (now (reach .entry)) (now (reach .exit)) ⌝ }
 {
     for v in 0..n {
         let i = base + v;

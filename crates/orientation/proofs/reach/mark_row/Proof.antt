@@ -2,13 +2,13 @@
 use Prim.Native.Nat.{_-_, _≤_}
 use native.Mathlib.Omega.{arith}
 use borrow.Author.Needs.{needs}
-use Rattle.orientation.specs.Closure.{Marked}
+use Rattle.orientation.specs.Closure.{RowMarked}
 use Rattle.orientation.proofs.MarkLaws.{marked-none, marked-more, marked-all}
 use Rattle.orientation.proofs.reach.mark_row.Statement.{statement}
 use Rattle.orientation.proofs.reach.mark_row.Tie as tie
 
 abbrev Inv-loop : tie.InvT-loop
-Inv-loop reach₀ fresh base n v₀ reach v = Marked base v fresh reach₀ reach × (v ≤ n)
+Inv-loop reach₀ fresh base n v₀ reach v = RowMarked base v fresh reach₀ reach × (v ≤ n)
 
 abbrev μ-loop : tie.MeasureT-loop
 μ-loop reach₀ fresh base n v₀ reach v = n - v
