@@ -37,7 +37,7 @@ pub fn direct_edge(e: TableEdge, turned: bool) -> Edge
 }
 
 // A table's edge without its firmness.
-pub fn own_edge(e: TableEdge) -> Edge
+fn own_edge(e: TableEdge) -> Edge
     ensures { λ r. ⌜ r ≡ ownEdge e ⌝ }
 {
     Edge {
