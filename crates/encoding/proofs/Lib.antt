@@ -1,0 +1,4 @@
+-- Laws by subject. A layer above wants ShortLaws, PutLaws and BoundLaws.
+pub mod ShortLaws
+pub mod PutLaws
+pub mod BoundLaws
