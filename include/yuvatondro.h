@@ -5,8 +5,8 @@
  * takes any bytes and any lengths, ends, and keeps no state.
  *
  * An answer is one word. Its low byte is 0, or the number of the refusal, and then no buffer was changed. With refusal 11 the lowest
- * step that lies on a loop of must edges stands in the byte above. Entries of a buffer behind those that a call fills keep their
- * content.
+ * step that lies on a loop of must edges stands in the byte above; with any other the bits above are 0. Entries of a buffer behind
+ * those that a call fills keep their content.
  */
 #ifndef YUVATONDRO_H
 #define YUVATONDRO_H
@@ -19,7 +19,7 @@ extern "C" {
 #endif
 
 /* Why a call was turned down, in the order in which the conditions are judged: 1 to 10 and 15 from the bytes of the table from left to
- * right, then 14, or 11, 12, 13. */
+ * right; then 14, or those of 11, 12, 13 that the call judges, in this order. */
 enum {
   YUVATONDRO_DONE = 0,
   YUVATONDRO_CUT = 1,           /* the bytes end in the middle of the table */
@@ -40,6 +40,10 @@ enum {
 };
 
 enum { YUVATONDRO_MAX_STEPS = 64, YUVATONDRO_MAX_EDGES = 192, YUVATONDRO_MAX_POINTS = 1024 };
+
+/* The bytes of the longest shortest form: an edition, a count, 64 steps, a count, 192 edges, each as long as it can be there:
+ * 1 + 1 + 64 * (1 + 2 + 1 + 16) + 2 + 192 * (1 + 1 + 1 + 2 + 1). */
+enum { YUVATONDRO_MAX_SHORTEST = 2436 };
 
 /* The refusal of any answer, and the step that comes with refusal 11. */
 static inline unsigned yuvatondro_refusal(uint64_t answer) { return (unsigned)(answer & 0xFF); }
@@ -80,6 +84,16 @@ uint64_t yuvatondro_chart(const uint8_t *table, size_t table_len, uint8_t *rows,
 static inline unsigned yuvatondro_points(uint64_t chart) { return (unsigned)(chart >> 8 & 0x7FF); }
 static inline unsigned long yuvatondro_total(uint64_t chart) { return (unsigned long)(chart >> 19 & 0x1FFFFFF); }
 static inline unsigned long yuvatondro_crossings(uint64_t chart) { return (unsigned long)(chart >> 44); }
+
+/* The shortest form of a table, to `out`: the same steps and edges in the same order, every number in its fewest bytes, edition 1 if no
+ * edge is soft and else 2. Answers how many bytes it wrote. Refuses by 1 to 10 and 15, then 13. No loop is looked for, and no edge is
+ * turned: what the table says is written whether or not it has rows.
+ *
+ * Tables that say the same, firmness included, have the same shortest form, so that they can be compared by bytes; it is read as the
+ * table is, is its own shortest form, and no table that says the same is shorter. So a buffer as long as the table is always long
+ * enough, and so is one of YUVATONDRO_MAX_SHORTEST bytes. */
+uint64_t yuvatondro_write(const uint8_t *table, size_t table_len, uint8_t *out, size_t out_len);
+static inline size_t yuvatondro_written(uint64_t answer) { return (size_t)(answer >> 8); }
 
 #ifdef __cplusplus
 }

@@ -9,13 +9,16 @@ use words::counts_word;
 use words::figures_word;
 use words::name_word;
 use words::refusal_word;
+use words::written_word;
+use writing::WriteAnswer;
 ghost use mathlib.Core.Path.{_≡_};
 ghost use Rattle.queries.specs.Calls.{countsCall, nameCall};
+ghost use Rattle.writing.specs.Calls.{writeCall};
 ghost use Rattle.flatten.specs.Records.{recordsOf};
 ghost use Rattle.edgelist.specs.Calls.{recordCall, RecordsBest};
 ghost use Rattle.layering.specs.Calls.{rowsCall, TableBest};
 ghost use Rattle.ordering.specs.Calls.{chartCall, ChartBest};
-ghost use Rattle.words.specs.Words.{countsRead, countsWord, nameRead, nameWord, doneRead, doneWord, chartRead, chartWord};
+ghost use Rattle.words.specs.Words.{countsRead, countsWord, nameRead, nameWord, writtenRead, doneRead, doneWord, chartRead, chartWord};
 
 // The steps and the edges of a table.
 #[no_mangle]
@@ -38,6 +41,19 @@ pub extern "C" fn yuvatondro_name(table: &[u8], step: usize) -> u64
     match queries::find_name(table, step) {
         NameAnswer::Refused(f) => refusal_word(f),
         NameAnswer::At(start, len) => name_word(start, len),
+    }
+}
+
+// The table written back in its fewest bytes, to a lent buffer.
+#[no_mangle]
+pub extern "C" fn yuvatondro_write(table: &[u8], out: &mut [u8]) -> u64
+    ensures { λ r. ⌜ writtenRead r ≡ writeCall (now (table .entry)) (now (out .entry)) .numbers ⌝ }
+    ensures { λ r. ⌜ r ≡ doneWord (writeCall (now (table .entry)) (now (out .entry)) .numbers) ⌝ }
+    ensures { λ _. ⌜ now (out .exit) ≡ writeCall (now (table .entry)) (now (out .entry)) .out ⌝ }
+{
+    match writing::write_table(table, out) {
+        WriteAnswer::Refused(f) => refusal_word(f),
+        WriteAnswer::Written(len) => written_word(len),
     }
 }
 

@@ -10,7 +10,7 @@ use Rattle.outcome.specs.Refusal.{numbersOf, stepOf, refusalIn}
 use Rattle.ordering.specs.declared.Figures.{Figures}
 use Rattle.ordering.specs.Calls.{figuresNumbers, ChartBest}
 use Rattle.ordering.specs.Charting.{Small}
-use Rattle.words.specs.Words.{wordSteps, wordEdges, wordNameStart, wordNameLength, wordPoints, wordTotal, wordCrossings, wordRead, doneRead, countsRead, nameRead, chartRead, second, third, totalUnit, crossingsUnit, doneWord, countsWord, nameWord, chartWord}
+use Rattle.words.specs.Words.{wordSteps, wordEdges, wordNameStart, wordNameLength, wordPoints, wordTotal, wordCrossings, wordWritten, wordRead, doneRead, writtenRead, countsRead, nameRead, chartRead, second, third, totalUnit, crossingsUnit, doneWord, countsWord, nameWord, chartWord}
 
 -- ---- refusals
 
@@ -68,6 +68,10 @@ module _ (f : Refusal) (low : stepOf f < second) {w : ℕ} (is : w ≡ doneWord 
   unfolding doneRead
   done-refused = (read-back (λ w. []), is ∙ ap doneWord e)
 
+  pub written-refused : (writtenRead w ≡ numbers) × (w ≡ doneWord numbers)
+  unfolding writtenRead
+  written-refused = (read-back (λ w. wordWritten w ∷ []), is ∙ ap doneWord e)
+
   pub counts-refused : (countsRead w ≡ numbers) × (w ≡ countsWord numbers)
   unfolding countsRead
   counts-refused = (read-back (λ w. wordSteps w ∷ wordEdges w ∷ []), omega (arith, is, refusal-short f) ∙ ap countsWord e)
@@ -89,6 +93,17 @@ unfolding doneRead
 done-told e = (e, ap doneWord e)
 
 -- what is packed comes out again, part by part
+module _ (len : ℕ) {w : ℕ} (is : w ≡ doneWord (0 ∷ len ∷ [])) {numbers : List ℕ} (e : 0 ∷ len ∷ [] ≡ numbers) where
+  written-zero : w % 0x100 ≡ 0
+  written-zero = omega (arith, is)
+
+  written-rest : w / 0x100 ≡ len
+  written-rest = omega (arith, is)
+
+  pub written-told : (writtenRead w ≡ numbers) × (w ≡ doneWord numbers)
+  unfolding writtenRead
+  written-told = (rw (written-zero, written-rest) e, is ∙ ap doneWord e)
+
 module _ (steps edges : ℕ) (h : steps < second) {w : ℕ} (is : w ≡ countsWord (0 ∷ steps ∷ edges ∷ [])) {numbers : List ℕ} (e : 0 ∷ steps ∷ edges ∷ [] ≡ numbers) where
   counts-low : w % 0x100 ≡ 0
   counts-low = omega (arith, is)

@@ -39,6 +39,10 @@ wordTotal w = w / 0x80000 % 0x2000000
 abbrev pub wordCrossings : ℕ → ℕ
 wordCrossings w = w / 0x100000000000
 
+-- how many bytes were written
+abbrev pub wordWritten : ℕ → ℕ
+wordWritten w = w / 0x100
+
 -- ---- all that is read out of a word, as the numbers that a call tells
 
 -- the refusal's number, and with a loop (11) the step
@@ -51,6 +55,9 @@ wordRead values w = cond (eqb (wordRefusal w) 0) (0 ∷ values w) (refusalRead w
 
 unfoldable pub doneRead : ℕ → List ℕ
 doneRead = wordRead (λ w. [])
+
+unfoldable pub writtenRead : ℕ → List ℕ
+writtenRead = wordRead (λ w. wordWritten w ∷ [])
 
 unfoldable pub countsRead : ℕ → List ℕ
 countsRead = wordRead (λ w. wordSteps w ∷ wordEdges w ∷ [])
@@ -76,7 +83,7 @@ totalUnit = 0x80000
 abbrev pub crossingsUnit : ℕ
 crossingsUnit = 0x100000000000
 
--- a refusal's number, and in the byte above it the step; 0 where a call tells nothing else
+-- 0 or a refusal's number, and above it what else is told: with a loop the step, of a table the bytes written, or nothing
 abbrev pub doneWord : List ℕ → ℕ
 doneWord numbers = getD numbers 0 0 + getD numbers 1 0 * second
 

@@ -19,6 +19,14 @@ const TOTAL: usize = 0x80000;
 
 const CROSSINGS: usize = 0x100000000000;
 
+// How many bytes were written as a word.
+pub fn written_word(len: usize) -> u64
+    requires { ⌜ len < third ⌝ }
+    ensures { λ r. ⌜ r ≡ doneWord (0 ∷ len ∷ []) ⌝ }
+{
+    (len * SECOND) as u64
+}
+
 // The counts of a table as a word.
 pub fn counts_word(steps: usize, edges: usize) -> u64
     requires { ⌜ (steps < second) × (edges < third) ⌝ }
