@@ -1,8 +1,9 @@
-//! The five calls as a C caller meets them: packed answers, lent buffers.
+//! The six calls as a C caller meets them: packed answers, lent buffers.
 
 use crate::chart::{draw_chart, Chart};
 use crate::records::{rows_of_records, Record};
 use crate::refusal::Refusal;
+use crate::shortest::{said, shortest};
 use crate::soft::rows_of_table;
 use crate::table::{read_table, Table};
 
@@ -41,6 +42,11 @@ pub fn chart(bytes: &[u8], rows: &mut [u8], order: &mut [u16]) -> u64 {
     pack(hand_out_chart(&chart, rows, order))
 }
 
+pub fn write(bytes: &[u8], buffer: &mut [u8]) -> u64 {
+    let written = read_table(bytes).map(|table| shortest(&said(bytes, &table)));
+    pack(written.and_then(|written| hand_out_bytes(&written, buffer)))
+}
+
 /// A buffer is looked at only when nothing else is wrong, and written only when nothing is.
 pub fn hand_out_rows(rows: &Result<Vec<usize>, Refusal>, buffer: &mut [u8]) -> Result<u64, Refusal> {
     let rows = rows.as_ref().map_err(|&refusal| refusal)?;
@@ -65,6 +71,12 @@ pub fn hand_out_chart(chart: &Result<Chart, Refusal>, rows: &mut [u8], order: &m
         *entry = point;
     }
     Ok(pack_chart(chart.point_count(), chart.total, chart.crossings))
+}
+
+pub fn hand_out_bytes(written: &[u8], buffer: &mut [u8]) -> Result<u64, Refusal> {
+    let used = buffer.get_mut(..written.len()).ok_or(Refusal::ShortBuffer)?;
+    used.copy_from_slice(written);
+    Ok((written.len() as u64) << 8)
 }
 
 pub fn pack_chart(points: usize, total: u64, crossings: usize) -> u64 {

@@ -12,6 +12,7 @@ pub mod random;
 pub mod records;
 pub mod refusal;
 pub mod rows;
+pub mod shortest;
 pub mod soft;
 pub mod table;
 pub mod words;

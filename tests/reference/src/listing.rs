@@ -45,7 +45,7 @@ fn point_text(bytes: &[u8], table: &Table, chart: &Chart, point: usize) -> Vec<u
         return format!("{mark}{edge}").into_bytes();
     }
     let step = &table.steps[point];
-    let mut text = bytes[step.name_start..step.name_start + step.name_len].to_vec();
+    let mut text = step.name(bytes).to_vec();
     text.extend(match step.kind {
         Kind::Check => "=C".to_string().into_bytes(),
         Kind::Adjustment { tolerance } => format!("=A{tolerance}").into_bytes(),

@@ -3,7 +3,7 @@
 use crate::refusal::Refusal;
 use std::ops::RangeInclusive;
 
-#[derive(Clone, Copy, PartialEq, Eq, Debug)]
+#[derive(Clone, Copy, PartialEq, Eq, Hash, Debug)]
 pub enum Kind {
     Check,
     Adjustment { tolerance: u32 },
@@ -18,7 +18,14 @@ pub struct Step {
     pub name_len: usize,
 }
 
-#[derive(Clone, Copy, PartialEq, Eq, Debug)]
+impl Step {
+    /// Its name, of the bytes that the table was read from.
+    pub fn name<'a>(&self, bytes: &'a [u8]) -> &'a [u8] {
+        &bytes[self.name_start..self.name_start + self.name_len]
+    }
+}
+
+#[derive(Clone, Copy, PartialEq, Eq, Hash, Debug)]
 pub struct Edge {
     pub from: usize,
     pub to: usize,
@@ -27,7 +34,7 @@ pub struct Edge {
 }
 
 /// An edge as the table has it, and whether it may give way.
-#[derive(Clone, Copy, PartialEq, Eq, Debug)]
+#[derive(Clone, Copy, PartialEq, Eq, Hash, Debug)]
 pub struct TableEdge {
     pub edge: Edge,
     pub soft: bool,

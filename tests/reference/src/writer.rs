@@ -1,4 +1,4 @@
-//! Tables for the generators: a draft of fields, so that any one can be spoiled before it is written.
+//! Tables from drafts: as short as they can be, but for fields that are spoiled or widened before they are written.
 
 use crate::table::{Edge, Kind};
 
@@ -42,6 +42,15 @@ pub fn fields_of(draft: &Draft) -> Vec<Field> {
     fields
 }
 
+/// Gives every number a width.
+pub fn widen(fields: &mut [Field], mut choose: impl FnMut() -> u32) {
+    for field in fields {
+        if let Field::Number { width, .. } = field {
+            *width = choose();
+        }
+    }
+}
+
 pub fn bytes_of(fields: &[Field]) -> Vec<u8> {
     let mut bytes = Vec::new();
     for field in fields {
@@ -55,6 +64,13 @@ pub fn bytes_of(fields: &[Field]) -> Vec<u8> {
 
 pub fn write_table(draft: &Draft) -> Vec<u8> {
     bytes_of(&fields_of(draft))
+}
+
+/// With a width for each number.
+pub fn write_widened(draft: &Draft, choose: impl FnMut() -> u32) -> Vec<u8> {
+    let mut fields = fields_of(draft);
+    widen(&mut fields, choose);
+    bytes_of(&fields)
 }
 
 /// Widths above 3 write what the reader has to turn down.

@@ -11,6 +11,8 @@ use reference::soft::{must_edges, rows_of_table, settle, turn, Settled};
 use reference::table::{read_table, Edge, Kind, TableEdge};
 use reference::writer::{write_table, Draft};
 
+mod stored;
+
 const STEPS: usize = 3;
 /// Ends (ordered, different) and firmness.
 const CHOICES: usize = STEPS * (STEPS - 1) * 2;
@@ -176,11 +178,8 @@ fn a_turned_edge_in_the_chart() {
 #[test]
 fn stored_tables() {
     let mut met = 0;
-    for line in [include_str!("../../chart.txt"), include_str!("../../soft.txt")].concat().lines() {
-        let Some((table, printed)) = line.split_once(" -> ").filter(|_| !line.starts_with('#')) else { continue };
-        let bytes: Vec<u8> = table.split_whitespace().map(|byte| u8::from_str_radix(byte, 16).unwrap()).collect();
-        let listing = String::from_utf8(print_chart(&bytes)).unwrap();
-        assert_eq!(listing, printed.replace(" / ", "\n") + "\n", "{table}");
+    for (table, printed) in stored::charts() {
+        assert_eq!(String::from_utf8(print_chart(&table)).unwrap(), printed, "{table:02x?}");
         met += 1;
     }
     assert!(met > 200, "{met} tables");

@@ -4,9 +4,9 @@ use reference::random::Random;
 use reference::records::Record;
 use reference::soft::turn;
 use reference::table::{Edge, Kind};
-use reference::writer::Draft;
+use reference::writer::{write_widened, Draft};
 
-use crate::shapes::Shape;
+use crate::shapes::{self, Shape};
 
 /// How gaps are drawn.
 #[derive(Clone, Copy)]
@@ -82,6 +82,23 @@ pub fn dress(random: &mut Random, shape: &Shape, gaps: Gaps, weights: Weights) -
 
 pub fn draft(random: &mut Random, steps: usize, edges: Vec<Edge>) -> Draft {
     Draft { steps: (0..steps).map(|_| (any_kind(random), any_name(random))).collect(), edges, firmness: None }
+}
+
+/// Every count at its limit, and every step as long as it can be.
+pub fn largest_draft(random: &mut Random) -> Draft {
+    let shape = shapes::full(random);
+    let (gaps, weights) = (any_gaps(random), any_weights(random));
+    let edges = dress(random, &shape, gaps, weights);
+    let mut draft = draft(random, shape.steps, edges);
+    for (kind, name) in &mut draft.steps {
+        *kind = Kind::Adjustment { tolerance: 9999 };
+        name.resize(16, b'n');
+    }
+    draft
+}
+
+pub fn with_long_forms(random: &mut Random, draft: &Draft) -> Vec<u8> {
+    write_widened(draft, || random.between(1, 3) as u32)
 }
 
 /// The draft in edition 2, with so many tenths of its edges soft, and some of these the other way round. Must edges

@@ -7,6 +7,7 @@ mod limits;
 mod loops;
 mod points;
 mod records;
+mod shortest;
 mod soft;
 mod spoiled;
 
@@ -36,6 +37,12 @@ pub const FAMILIES: &[Family] = &[
     fixed("stated cases", 1, limits::stated_cases),
     fixed("limits", 1, limits::field_limits),
     fixed("soft limits", 1, limits::soft_limits),
+    fixed("empty spellings", 1, shortest::empty_spellings),
+    fixed("single long forms", 1, shortest::single_long_forms),
+    fixed("written values", 1, shortest::values),
+    fixed("written ends", 1, shortest::ends),
+    fixed("single soft edges", 1, shortest::single_soft),
+    fixed("written names", 1, shortest::names),
     fixed("all tiny graphs", graphs::TINY_GRAPHS, graphs::all_tiny),
     fixed("all tiny soft graphs", graphs::TINY_GRAPHS, soft::all_tiny),
     fixed("all short tables", bytes::SHORT_TABLES, bytes::all_short),
@@ -56,6 +63,10 @@ pub const FAMILIES: &[Family] = &[
     endless("record loops", 1000, records::loops),
     endless("spare bytes", 500, bytes::spare),
     endless("long forms", 1500, bytes::long_forms),
+    endless("soft long forms", 1500, bytes::soft_long_forms),
+    endless("spellings", 3000, shortest::spellings),
+    endless("writing buffers", 300, shortest::buffers),
+    endless("largest spellings", 60, shortest::largest),
     endless("long input", 60, bytes::long_input),
     endless("long soft input", 30, bytes::long_soft_input),
     endless("two spoiled fields", 3000, spoiled::two_fields),

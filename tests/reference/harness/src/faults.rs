@@ -47,6 +47,9 @@ fn trials(fault: &str) -> Vec<Vec<&'static str>> {
     if fault.starts_with("records") {
         return vec![vec!["--calls", "records"]];
     }
+    if fault.starts_with("write-") {
+        return vec![vec!["--calls", "write"]];
+    }
     if fault.starts_with("soft") {
         return ["rows", "chart"].iter().map(|&call| vec!["--calls", call]).collect();
     }

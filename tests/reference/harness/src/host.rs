@@ -25,18 +25,24 @@ mod linked {
             order: *mut u16,
             order_len: usize,
         ) -> u64;
+        #[cfg(host_write)]
+        pub fn yuvatondro_write(table: *const u8, table_len: usize, out: *mut u8, out_len: usize) -> u64;
     }
 }
 
-pub const CALLS: [&str; 5] = ["counts", "name", "rows", "records", "chart"];
+pub const CALLS: [&str; 6] = ["counts", "name", "rows", "records", "chart", "write"];
 pub const COUNTS: usize = 0;
 pub const NAME: usize = 1;
 pub const ROWS: usize = 2;
 pub const RECORDS: usize = 3;
 pub const CHART: usize = 4;
+pub const WRITE: usize = 5;
 
-pub fn exported() -> [bool; 5] {
-    [cfg!(host_counts), cfg!(host_name), cfg!(host_rows), cfg!(host_records), cfg!(host_chart)]
+/// Some of the calls.
+pub type Calls = [bool; CALLS.len()];
+
+pub fn exported() -> Calls {
+    [cfg!(host_counts), cfg!(host_name), cfg!(host_rows), cfg!(host_records), cfg!(host_chart), cfg!(host_write)]
 }
 
 /// A lent stretch as C hands it over.
@@ -80,5 +86,13 @@ pub fn chart(table: Bytes, rows: BytesMut, order: (*mut u16, usize)) -> u64 {
     #[cfg(host_chart)]
     return unsafe { linked::yuvatondro_chart(table.0, table.1, rows.0, rows.1, order.0, order.1) };
     #[cfg(not(host_chart))]
+    unreachable!()
+}
+
+#[allow(unused_variables)]
+pub fn write(table: Bytes, out: BytesMut) -> u64 {
+    #[cfg(host_write)]
+    return unsafe { linked::yuvatondro_write(table.0, table.1, out.0, out.1) };
+    #[cfg(not(host_write))]
     unreachable!()
 }

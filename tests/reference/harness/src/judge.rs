@@ -1,6 +1,7 @@
 //! Puts one input to the library and to the reference and compares answers and buffers.
 
 mod printed;
+mod written;
 
 use reference::calls::{counts, hand_out_chart, hand_out_rows, name, pack};
 use reference::chart::{draw_chart, Chart};
@@ -10,7 +11,7 @@ use reference::refusal::Refusal;
 use reference::soft::rows_of_table;
 use reference::table::read_table;
 
-use crate::host::{self, CALLS, CHART, COUNTS, NAME, RECORDS, ROWS};
+use crate::host::{self, Calls, CALLS, CHART, COUNTS, NAME, RECORDS, ROWS};
 use crate::lent::Arena;
 use crate::program::Programs;
 use crate::tally::Tally;
@@ -21,7 +22,7 @@ const SHOWN: u64 = 10;
 
 pub struct Judge {
     pub tally: Tally,
-    wanted: [bool; 5],
+    wanted: Calls,
     stop_at_first: bool,
     programs: Programs,
     /// Family and group at hand.
@@ -33,10 +34,11 @@ pub struct Judge {
     numbers: Arena,
     rows: Arena,
     order: Arena,
+    written: Arena,
 }
 
 impl Judge {
-    pub fn new(wanted: [bool; 5], stop_at_first: bool, programs: Programs) -> Judge {
+    pub fn new(wanted: Calls, stop_at_first: bool, programs: Programs) -> Judge {
         Judge {
             tally: Tally::new(),
             wanted,
@@ -50,12 +52,13 @@ impl Judge {
             numbers: Arena::new(32),
             rows: Arena::new(2),
             order: Arena::new(4),
+            written: Arena::new(4),
         }
     }
 
     /// Lends empty stretches as null pointers, as a C program may.
     pub fn lend_null_when_empty(&mut self) {
-        for arena in [&mut self.table, &mut self.numbers, &mut self.rows, &mut self.order] {
+        for arena in [&mut self.table, &mut self.numbers, &mut self.rows, &mut self.order, &mut self.written] {
             arena.null_when_empty = true;
         }
     }
@@ -90,6 +93,7 @@ impl Judge {
             let chart = table.as_ref().map_err(|&refusal| refusal).and_then(draw_chart);
             self.judge_chart(bytes, &chart);
         }
+        self.judge_write(bytes, &table);
         self.sample_listing(bytes);
     }
 
@@ -106,8 +110,9 @@ impl Judge {
         }
     }
 
-    /// Rows and chart with every pair of these buffer lengths, as differences from what is needed.
+    /// Rows and chart with every pair of these buffer lengths, as differences from what is needed; writing with each.
     pub fn judge_buffers(&mut self, bytes: &[u8], offsets: &[isize]) {
+        self.judge_write_buffers(bytes, offsets);
         let table = read_table(bytes);
         let chart = table.as_ref().map_err(|&refusal| refusal).and_then(draw_chart);
         let rows = table.as_ref().map_err(|&refusal| refusal).and_then(rows_of_table);

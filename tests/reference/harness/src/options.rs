@@ -1,14 +1,14 @@
 //! The command line.
 
-use crate::host::{exported, CALLS};
+use crate::host::{exported, Calls, CALLS};
 use crate::program::{Program, Programs};
 
-const USAGE: &str = "harness [--calls counts,name,rows,records,chart] [--seed N] [--seconds K]
+const USAGE: &str = "harness [--calls counts,name,rows,records,chart,write] [--seed N] [--seconds K]
         [--family NAME] [--group N] [--patience S] [--stop-at-first] [--program PATH]
         [--records-program PATH] [--every N] [--null-when-empty] [--share N]";
 
 pub struct Options {
-    pub calls: [bool; 5],
+    pub calls: Calls,
     pub seed: u64,
     pub seconds: Option<u64>,
     pub family: Option<String>,
@@ -71,8 +71,8 @@ impl Options {
     }
 }
 
-fn read_calls(list: &str) -> [bool; 5] {
-    let mut calls = [false; 5];
+fn read_calls(list: &str) -> Calls {
+    let mut calls = [false; CALLS.len()];
     for word in list.split(',') {
         let call = CALLS.iter().position(|&call| call == word).unwrap_or_else(|| stop("an unknown call"));
         if !exported()[call] {

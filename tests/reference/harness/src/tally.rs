@@ -17,17 +17,19 @@ pub struct Tally {
     pub inputs: u64,
     /// Listings of the program, by the number of the refusal that is due; charts at 0.
     by_line: [u64; REFUSALS + 1],
-    by_call: [u64; 5],
+    by_call: [u64; CALLS.len()],
     /// Answers due, by the refusal's number; accepted ones at 0.
     by_refusal: [u64; REFUSALS + 1],
     /// Charts by the pass whose result is theirs; the start at 0.
     by_pass: [u64; PASSES + 1],
     /// Charts with turned edges, and how many these are.
     turned: (u64, usize),
+    /// Tables written, and those of them that came in more bytes.
+    written: (u64, u64),
     /// Time spent in each call.
-    spent: [Duration; 5],
+    spent: [Duration; CALLS.len()],
     /// For each call the longest time, with family and group.
-    slowest: [(Duration, &'static str, usize); 5],
+    slowest: [(Duration, &'static str, usize); CALLS.len()],
 }
 
 impl Tally {
@@ -37,12 +39,13 @@ impl Tally {
             differences: 0,
             inputs: 0,
             by_line: [0; REFUSALS + 1],
-            by_call: [0; 5],
+            by_call: [0; CALLS.len()],
             by_refusal: [0; REFUSALS + 1],
             by_pass: [0; PASSES + 1],
             turned: (0, 0),
-            spent: [Duration::ZERO; 5],
-            slowest: [(Duration::ZERO, "", 0); 5],
+            written: (0, 0),
+            spent: [Duration::ZERO; CALLS.len()],
+            slowest: [(Duration::ZERO, "", 0); CALLS.len()],
         }
     }
 
@@ -60,6 +63,11 @@ impl Tally {
         let turned = chart.turned.iter().filter(|&&turned| turned).count();
         self.turned.0 += u64::from(turned > 0);
         self.turned.1 += turned;
+    }
+
+    pub fn note_written(&mut self, table_len: usize, shortest: usize) {
+        self.written.0 += 1;
+        self.written.1 += u64::from(shortest < table_len);
     }
 
     pub fn note_listing(&mut self, refusal: u8) {
@@ -88,6 +96,7 @@ impl Tally {
         }
         println!("charts by the pass that gives the order, from the start on: {:?}", self.by_pass);
         println!("charts with turned edges: {}, turned edges in them: {}", self.turned.0, self.turned.1);
+        println!("tables written: {}, of them shorter than they came: {}", self.written.0, self.written.1);
         let rate = self.cases as f64 / took.as_secs_f64();
         println!("{:.1} s, {rate:.0} cases a second", took.as_secs_f64());
         println!("{} cases, {} differences", self.cases, self.differences);

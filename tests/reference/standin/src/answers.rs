@@ -11,6 +11,7 @@ use crate::wrong_chart::draw;
 use crate::wrong_rows;
 use crate::wrong_soft;
 use crate::wrong_table::{read, read_leniently};
+use crate::wrong_writing::shortest;
 
 pub fn counts(table: &[u8]) -> u64 {
     if on("table-changed") && !table.is_empty() {
@@ -110,4 +111,60 @@ fn hand_out_chart(chart: Result<Chart, Refusal>, rows: &mut [u8], order: &mut [u
         }
     }
     Ok(answer)
+}
+
+/// No table has fewer bytes.
+const EMPTY: usize = 3;
+/// No shortest form has more.
+const MOST: usize = 2436;
+
+pub fn write(table: &[u8], buffer: &mut [u8]) -> u64 {
+    if on("write-13-first") && buffer.len() < EMPTY {
+        return 13;
+    }
+    let written = shortest(table);
+    if on("write-refused-cleared") && written.is_err() {
+        buffer.fill(0);
+    }
+    calls::pack(written.and_then(|written| hand_out_written(table.len(), &written, buffer)))
+}
+
+fn hand_out_written(table_len: usize, written: &[u8], buffer: &mut [u8]) -> Result<u64, Refusal> {
+    let (used, room) = (written.len(), buffer.len());
+    let wants = [("write-13-exact", used + 1), ("write-13-by-table", table_len), ("write-13-by-most", MOST)];
+    if wants.iter().any(|&(fault, wanted)| on(fault) && room < wanted) || on("write-13-largest") && used == MOST {
+        return Err(Refusal::ShortBuffer);
+    }
+    if on("write-never") {
+        return calls::hand_out_bytes(written, &mut buffer.to_vec());
+    }
+    if on("write-13-told") && room < used {
+        return Ok((used as u64) << 8 | 13);
+    }
+    if on("write-13-filled") && room < used {
+        buffer.copy_from_slice(&written[..room]);
+    }
+    if on("write-one-short") && room + 1 == used {
+        buffer.copy_from_slice(&written[..room]);
+        return Ok((used as u64) << 8);
+    }
+    let answer = calls::hand_out_bytes(written, buffer)?;
+    if on("write-rest-cleared") {
+        buffer[used..].fill(0);
+    }
+    if on("write-one-past") {
+        unsafe { buffer.as_mut_ptr().add(used).write_volatile(0) };
+    }
+    Ok(count_told(answer, table_len))
+}
+
+fn count_told(answer: u64, table_len: usize) -> u64 {
+    let counts = [
+        ("write-count-off", answer + (1 << 8)),
+        ("write-count-of-table", (table_len as u64) << 8),
+        ("write-count-8-bits", answer & 0xffff),
+        ("write-count-11-bits", answer & 0x7ffff),
+        ("write-count-higher", answer << 8),
+    ];
+    counts.into_iter().find(|(fault, _)| on(fault)).map_or(answer, |(_, count)| count)
 }

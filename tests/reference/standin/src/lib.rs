@@ -7,7 +7,9 @@ pub mod wrong_chart;
 mod wrong_order;
 mod wrong_rows;
 mod wrong_soft;
+mod wrong_spelling;
 pub mod wrong_table;
+mod wrong_writing;
 
 use std::slice::{from_raw_parts, from_raw_parts_mut};
 
@@ -49,4 +51,9 @@ pub unsafe extern "C" fn yuvatondro_chart(
 ) -> u64 {
     let table = unsafe { from_raw_parts(table, table_len) };
     unsafe { answers::chart(table, from_raw_parts_mut(rows, rows_len), from_raw_parts_mut(order, order_len)) }
+}
+
+#[no_mangle]
+pub unsafe extern "C" fn yuvatondro_write(table: *const u8, table_len: usize, out: *mut u8, out_len: usize) -> u64 {
+    unsafe { answers::write(from_raw_parts(table, table_len), from_raw_parts_mut(out, out_len)) }
 }

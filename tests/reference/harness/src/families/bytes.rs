@@ -1,9 +1,9 @@
 //! Bytes that are hardly or not at all a table.
 
 use reference::random::Random;
-use reference::writer::{bytes_of, fields_of, write_table, Draft, Field};
+use reference::writer::{write_table, write_widened, Draft};
 
-use crate::drafts::{any_gaps, any_weights, draft, dress, soften_some};
+use crate::drafts::{any_gaps, any_weights, draft, dress, largest_draft, soften_some, with_long_forms};
 use crate::judge::Judge;
 use crate::shapes;
 
@@ -55,16 +55,6 @@ fn small_soft_draft(random: &mut Random) -> Draft {
     soften_some(random, draft)
 }
 
-fn with_long_forms(random: &mut Random, draft: &Draft) -> Vec<u8> {
-    let mut fields = fields_of(draft);
-    for field in &mut fields {
-        if let Field::Number { width, .. } = field {
-            *width = random.between(1, 3) as u32;
-        }
-    }
-    bytes_of(&fields)
-}
-
 fn some_table(random: &mut Random, make: fn(&mut Random) -> Draft) -> Vec<u8> {
     let draft = make(random);
     if random.one_in(3) {
@@ -98,6 +88,11 @@ pub fn spare(judge: &mut Judge, random: &mut Random, _: usize) {
 
 pub fn long_forms(judge: &mut Judge, random: &mut Random, _: usize) {
     let draft = small_draft(random);
+    judge.judge_table(&with_long_forms(random, &draft));
+}
+
+pub fn soft_long_forms(judge: &mut Judge, random: &mut Random, _: usize) {
+    let draft = small_soft_draft(random);
     judge.judge_table(&with_long_forms(random, &draft));
 }
 
@@ -163,24 +158,11 @@ const LONGEST_TABLES: [usize; 2] = [3913, 4489];
 
 /// Every count at its limit and every number in its longest form.
 fn longest_table(random: &mut Random, soft: bool) -> Vec<u8> {
-    let shape = shapes::full(random);
-    let (gaps, weights) = (any_gaps(random), any_weights(random));
-    let edges = dress(random, &shape, gaps, weights);
-    let mut draft = draft(random, shape.steps, edges);
-    for (kind, name) in &mut draft.steps {
-        *kind = reference::table::Kind::Adjustment { tolerance: 9999 };
-        name.resize(16, b'n');
-    }
+    let mut draft = largest_draft(random);
     if soft {
         draft = soften_some(random, draft);
     }
-    let mut fields = fields_of(&draft);
-    for field in &mut fields {
-        if let Field::Number { width, .. } = field {
-            *width = 3;
-        }
-    }
-    let bytes = bytes_of(&fields);
+    let bytes = write_widened(&draft, || 3);
     assert_eq!(bytes.len(), LONGEST_TABLES[usize::from(soft)]);
     bytes
 }

@@ -2,7 +2,7 @@
 
 use reference::random::Random;
 use reference::table::{Edge, Kind};
-use reference::writer::{bytes_of, fields_of, short, write_table, Draft, Field};
+use reference::writer::{bytes_of, fields_of, short, write_table, write_widened, Draft, Field};
 
 use crate::judge::Judge;
 
@@ -47,7 +47,7 @@ pub fn stated_cases(judge: &mut Judge, _: &mut Random, _: usize) {
     }
 }
 
-fn chain(steps: usize, kind: Kind, name: &[u8], edges: usize, gap: u32, weight: u32) -> Draft {
+pub fn chain(steps: usize, kind: Kind, name: &[u8], edges: usize, gap: u32, weight: u32) -> Draft {
     let links = steps.max(2) - 1;
     let edge = |from| Edge { from, to: from + 1, gap, weight };
     let edges = (0..edges).map(|index| edge(index % links)).collect();
@@ -140,13 +140,7 @@ fn name_limits() -> Vec<Draft> {
 fn judge_forms(judge: &mut Judge, draft: &Draft) {
     judge.judge_table(&write_table(draft));
     judge.judge_buffers(&write_table(draft), &[-1, 0, 1]);
-    for wide in 2..=4 {
-        let mut fields = fields_of(draft);
-        for field in &mut fields {
-            if let Field::Number { width, .. } = field {
-                *width = wide;
-            }
-        }
-        judge.judge_table(&bytes_of(&fields));
+    for width in 2..=4 {
+        judge.judge_table(&write_widened(draft, || width));
     }
 }

@@ -33,7 +33,7 @@ fn draft_of(random: &mut Random, make: fn(&mut Random) -> Shape) -> Draft {
     draft(random, shape.steps, edges)
 }
 
-fn any_draft(random: &mut Random) -> Draft {
+pub fn any_draft(random: &mut Random) -> Draft {
     let make = random.pick(&MAKERS);
     draft_of(random, make)
 }

@@ -1,0 +1,17 @@
+//! The stored tables.
+
+/// Each table with what `chart` prints for it.
+pub fn charts() -> Vec<(Vec<u8>, String)> {
+    read_lines(&[include_str!("../../../chart.txt"), include_str!("../../../soft.txt")].concat())
+}
+
+/// Tables with the lines that are due.
+pub fn read_lines(stored: &str) -> Vec<(Vec<u8>, String)> {
+    stored.lines().filter(|line| !line.starts_with('#')).filter_map(read_line).collect()
+}
+
+fn read_line(line: &str) -> Option<(Vec<u8>, String)> {
+    let (table, printed) = line.split_once(" -> ")?;
+    let bytes = table.split_whitespace().map(|byte| u8::from_str_radix(byte, 16).unwrap()).collect();
+    Some((bytes, printed.replace(" / ", "\n") + "\n"))
+}
