@@ -27,7 +27,7 @@ def edge_bytes(edge, edition):
 
 
 def table_bytes(table):
-    """The edition is the lowest that can tell the edges, so that equal tables have equal bytes."""
+    """The shortest form of a table. The edition is the lowest that can tell the edges, so that equal tables have equal bytes."""
     edition = PLAIN if all(edge.firmness == MUST for edge in table.edges) else WITH_FIRMNESS
     parts = [number_bytes(edition), number_bytes(len(table.steps)), *map(step_bytes, table.steps), number_bytes(len(table.edges))]
     parts += [edge_bytes(edge, edition) for edge in table.edges]

@@ -1,0 +1,72 @@
+/* What the library makes of each table on standard input, one a line in hexadecimal: `writes` and the shortest form, or `refused` and the
+ * number. Each table is tried with the largest buffer, the exact one and every shorter one, all with guard bytes round them. Ends with
+ * status 1 at the first surprise. */
+#include <stdio.h>
+#include <stdlib.h>
+#include <string.h>
+
+#include "yuvatondro.h"
+
+enum { MAX_LINE = 1 << 15, GUARD = 32, FILL = 0xA5 };
+
+static uint8_t table[MAX_LINE / 2];
+static size_t table_len;
+static uint8_t guarded[GUARD + YUVATONDRO_MAX_SHORTEST + GUARD];
+static uint8_t *const out = guarded + GUARD;
+
+static void expect(int holds, size_t room, const char *what) {
+  if (holds) return;
+  fprintf(stderr, "writing: a table of %zu bytes and a buffer of %zu: %s\n", table_len, room, what);
+  exit(1);
+}
+
+/* The table of the next line; 0 where there is none. */
+static int read_table(void) {
+  static char line[MAX_LINE];
+  char *at = line, *end;
+  if (fgets(line, sizeof line, stdin) == NULL) return 0;
+  for (table_len = 0;; at = end) {
+    unsigned long byte = strtoul(at, &end, 16);
+    if (end == at) return 1;
+    table[table_len++] = (uint8_t)byte;
+  }
+}
+
+/* The call with a buffer of `room` bytes. Nothing may change but the bytes that it says it wrote. */
+static uint64_t call_write(size_t room) {
+  memset(guarded, FILL, sizeof guarded);
+  uint64_t answer = yuvatondro_write(table, table_len, out, room);
+  int done = yuvatondro_refusal(answer) == YUVATONDRO_DONE;
+  size_t written = done ? yuvatondro_written(answer) : 0;
+  expect(done || answer < 256, room, "more than the refusal stands in the answer");
+  expect(written <= room, room, "more was written than there is room for");
+  for (size_t i = 0; i < sizeof guarded; i++)
+    expect(guarded[i] == FILL || (i >= GUARD && i < GUARD + written), room, "a byte changed that is not one of those written");
+  return answer;
+}
+
+/* An exact buffer gives what a larger one gave, and every shorter one is refused. */
+static void check_rooms(uint64_t answer) {
+  static uint8_t shortest[YUVATONDRO_MAX_SHORTEST];
+  size_t written = yuvatondro_written(answer);
+  memcpy(shortest, out, written);
+  expect(written <= table_len, written, "the shortest form is longer than the table");
+  for (size_t room = 0; room < written; room++) expect(call_write(room) == YUVATONDRO_SHORT_BUFFER, room, "not refused by 13");
+  expect(call_write(written) == answer && memcmp(out, shortest, written) == 0, written, "not what a larger buffer gives");
+}
+
+int main(void) {
+  while (read_table()) {
+    uint64_t answer = call_write(YUVATONDRO_MAX_SHORTEST);
+    if (yuvatondro_refusal(answer) != YUVATONDRO_DONE) {
+      expect(call_write(0) == answer, 0, "an empty buffer is judged before the table");
+      printf("refused %u\n", yuvatondro_refusal(answer));
+      continue;
+    }
+    check_rooms(answer);
+    printf("writes");
+    for (size_t i = 0; i < yuvatondro_written(answer); i++) printf(" %02X", out[i]);
+    printf("\n");
+  }
+  return 0;
+}
