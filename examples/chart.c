@@ -1,7 +1,7 @@
 /* The calls on a table, in the order in which it can be refused. The call on edges without a table is in points.c. */
 #include "chart.h"
 
-/* The counts, the name of each step, and the edges. */
+/* The counts, the name of each step, the shortest form of the table, and the edges. */
 static uint64_t ask_steps(Chart *chart) {
   uint64_t answer = yuvatondro_counts(chart->table, chart->table_len);
   if (yuvatondro_refusal(answer) != YUVATONDRO_DONE) return answer;
@@ -13,6 +13,9 @@ static uint64_t ask_steps(Chart *chart) {
     chart->name[i] = chart->table + yuvatondro_name_start(answer);
     chart->name_len[i] = yuvatondro_name_length(answer);
   }
+  answer = yuvatondro_write(chart->table, chart->table_len, chart->shortest, YUVATONDRO_MAX_SHORTEST);
+  if (yuvatondro_refusal(answer) != YUVATONDRO_DONE) return answer;
+  chart->shortest_len = yuvatondro_written(answer);
   read_edges(chart, chart->edge);
   chart->known = STEPS;
   return YUVATONDRO_DONE;

@@ -32,6 +32,8 @@ typedef struct {
   const uint8_t *name[YUVATONDRO_MAX_STEPS];
   size_t name_len[YUVATONDRO_MAX_STEPS];
   Edge edge[YUVATONDRO_MAX_EDGES];
+  uint8_t shortest[YUVATONDRO_MAX_SHORTEST];
+  size_t shortest_len;
 
   /* known from ROWS on */
   uint8_t row[YUVATONDRO_MAX_STEPS];

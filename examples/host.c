@@ -1,8 +1,9 @@
-/* A host program: host TABLE [SVG]
+/* A host program: host TABLE [SVG [SHORTEST]]
  *
  * Reads a table from a file, prints all that the calls of include/yuvatondro.h tell of it as lists and as a drawing in text, and, with a
- * second argument, draws the chart as a picture. chart.c has the calls. What the calls do not hand out is not shown, with one exception:
- * the edges, which edges.c reads. So a step has its name, but not its kind.
+ * second argument, draws the chart as a picture. With a third it writes the shortest form of the table to a file, also of a table that
+ * has no chart; two tables say the same just if these files are equal. chart.c has the calls. What the calls do not hand out is not shown,
+ * with one exception: the edges, which edges.c reads. So a step has its name, but not its kind.
  *
  * Ends with status 0; with 1 if the table is refused, after printing what is known of it; with 2 for trouble with the arguments or files.
  */
@@ -29,16 +30,18 @@ static int read_table(const char *path, uint8_t *table, size_t *table_len) {
   return status;
 }
 
-static int write_svg(const char *path, const Chart *chart) {
+static void put_shortest(FILE *out, const Chart *chart) { fwrite(chart->shortest, 1, chart->shortest_len, out); }
+
+static int write_file(const char *path, const Chart *chart, void (*put)(FILE *, const Chart *)) {
   FILE *out = fopen(path, "wb");
   if (out == NULL) return report(path);
-  draw_svg(out, chart);
+  put(out, chart);
   int failed = ferror(out);
   return fclose(out) != 0 || failed ? report(path) : 0;
 }
 
-/* Prints what is known, then what was refused, if anything. */
-static int show_chart(Chart *chart, uint64_t answer, const char *svg) {
+/* Prints what is known and writes its shortest form, if a file is named for it; then says what was refused, or draws the picture. */
+static int show_chart(Chart *chart, uint64_t answer, const char *svg, const char *shortest) {
   if (chart->known == ORDER && !place_points(chart)) {
     fprintf(stderr, "host: the edges that edges.c reads are not those of the library\n");
     return TROUBLE;
@@ -46,22 +49,23 @@ static int show_chart(Chart *chart, uint64_t answer, const char *svg) {
   list_chart(stdout, chart);
   if (chart->known == ORDER) draw_text(stdout, chart);
   if (fflush(stdout) != 0 || ferror(stdout)) return report("standard output");
+  if (shortest != NULL && chart->known >= STEPS && write_file(shortest, chart, put_shortest) != 0) return TROUBLE;
   if (yuvatondro_refusal(answer) != YUVATONDRO_DONE) {
     explain_refusal(stderr, chart, answer);
     return REFUSED;
   }
-  return svg == NULL ? 0 : write_svg(svg, chart);
+  return svg == NULL ? 0 : write_file(svg, chart, draw_svg);
 }
 
 int main(int argc, char **argv) {
   static uint8_t table[ROOM];
   static Chart chart;
   size_t table_len = 0;
-  if (argc != 2 && argc != 3) {
-    fprintf(stderr, "usage: host TABLE [SVG]\n");
+  if (argc < 2 || argc > 4) {
+    fprintf(stderr, "usage: host TABLE [SVG [SHORTEST]]\n");
     return TROUBLE;
   }
   int status = read_table(argv[1], table, &table_len);
   if (status != 0) return status;
-  return show_chart(&chart, ask_chart(&chart, table, table_len), argc == 3 ? argv[2] : NULL);
+  return show_chart(&chart, ask_chart(&chart, table, table_len), argc > 2 ? argv[2] : NULL, argc > 3 ? argv[3] : NULL);
 }

@@ -3,6 +3,7 @@
 
 static void list_numbers(FILE *out, const Chart *chart) {
   fprintf(out, "bytes     %zu\n", chart->table_len);
+  fprintf(out, "shortest  %zu\n", chart->shortest_len);
   fprintf(out, "steps     %u\n", chart->steps);
   fprintf(out, "edges     %u\n", chart->edges);
   if (chart->known < ORDER) return;
