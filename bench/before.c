@@ -34,8 +34,7 @@ static void open_pairs(Pairs *p, const char *title, Call before, Call now) {
   p->call[1] = now;
 }
 static void add_pair(Pairs *p, const Instance *inst) {
-  Pair *pair = &p->pair[p->count++];
-  snprintf(pair->name, MAX_NAME, "%s", inst->name);
+  Pair *pair = next_pair(p, inst->name);
   for (int way = 0; way < 2; way++) pair->length[way] = now_write_table(inst, pair->table[way]);
 }
 static void make_size(int k) {

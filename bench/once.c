@@ -4,18 +4,21 @@
 //   once charts NODES   the charts of the shapes of that size, cut to as many edges as are accepted
 //   once soft NODES     our rows of the shapes of that size, with soft edges of which about half are turned
 //   once settled NODES  our rows of the same edges as kept or turned
+//   once short NODES    the shapes of that size, read, and written in their shortest form, which they have already
+//   once long NODES     the same with full steps and soft edges, and each number in three bytes
 #include "chart_call.h"
 #include "peer.h"
 #include "rows_call.h"
 #include "soft.h"
 #include "textbook.h"
+#include "write_call.h"
 #include <stdio.h>
 #include <stdlib.h>
 #include <string.h>
 
 enum { SEEDS = 2, EDGES_A_NODE = 3 };
 
-static void run_once(const Instance *inst) {
+static void run_once(Instance *inst) {
   static uint8_t table[MAX_TABLE], rows[MAX_NODES];
   static TextbookAnswer textbook;
   static PeerAnswer peer;
@@ -41,7 +44,15 @@ static void soft_once(const SoftInstance *soft, int settled) {
   size_t length = settled ? write_table(&soft->settled, table) : write_edition_2(&soft->written, SOFT, table);
   if (call_rows(table, length, rows, soft->written.nodes) != 0) exit(1);
 }
-static int run_soft(size_t nodes, int settled) {
+static void write_once(const Instance *inst, Form form) {
+  static uint8_t table[MAX_TABLE], out[MAX_TABLE];
+  size_t length = write_form(inst, form, table);
+  if (call_counts(table, length) != 0 || call_write(table, length, out) == 0) exit(1);
+}
+static void short_once(Instance *inst) { write_once(inst, (Form){ 1, MUST, 0, 1 }); }
+static void long_once(Instance *inst) { write_once(inst, (Form){ 2, SOFT, 1, 3 }); }
+
+static int run_softly(size_t nodes, int settled) {
   static SoftInstance soft;
   for (size_t shape = 0; shape < shape_count(); shape++)
     for (int seed = 1; seed <= SEEDS; seed++) {
@@ -50,16 +61,22 @@ static int run_soft(size_t nodes, int settled) {
     }
   return shape_count() * SEEDS;
 }
-static int run_shapes(size_t nodes, int charts) {
+static int run_soft(size_t nodes) { return run_softly(nodes, 0); }
+static int run_settled(size_t nodes) { return run_softly(nodes, 1); }
+
+static int run_shapes(size_t nodes, void (*once)(Instance *)) {
   static Instance inst;
   for (size_t shape = 0; shape < shape_count(); shape++)
     for (int seed = 1; seed <= SEEDS; seed++) {
       make_shape(&inst, shape, nodes, nodes * EDGES_A_NODE, seed);
-      if (charts) chart_once(&inst);
-      else run_once(&inst);
+      once(&inst);
     }
   return shape_count() * SEEDS;
 }
+static int run_charts(size_t nodes) { return run_shapes(nodes, chart_once); }
+static int run_short(size_t nodes) { return run_shapes(nodes, short_once); }
+static int run_long(size_t nodes) { return run_shapes(nodes, long_once); }
+
 static int run_files(int files, char **paths) {
   static Instance inst;
   for (int k = 0; k < files; k++) {
@@ -69,15 +86,19 @@ static int run_files(int files, char **paths) {
   return files;
 }
 
-static int run_named(const char *what, size_t nodes) {
-  if (strcmp(what, "charts") == 0) return run_shapes(nodes, 1);
-  return run_soft(nodes, strcmp(what, "settled") == 0);
+typedef int (*Run)(size_t nodes);
+static const struct { const char *name; Run run; } named[] = {
+  { "charts", run_charts }, { "soft", run_soft }, { "settled", run_settled }, { "short", run_short }, { "long", run_long },
+};
+static Run find_named(const char *name) {
+  for (size_t k = 0; k < sizeof named / sizeof *named; k++) if (strcmp(name, named[k].name) == 0) return named[k].run;
+  return NULL;
 }
 
 int main(int argc, char **argv) {
-  int named = argc == 3 && (strcmp(argv[1], "charts") == 0 || strcmp(argv[1], "soft") == 0 || strcmp(argv[1], "settled") == 0);
-  size_t nodes = argc == 2 + named ? strtoul(argv[1 + named], NULL, 10) : 0;
+  Run run = argc == 3 ? find_named(argv[1]) : NULL;
+  size_t nodes = argc == 2 || run ? strtoul(argv[argc - 1], NULL, 10) : 0;
   if (nodes > MAX_NODES) return 2;
-  printf("%d\n", named ? run_named(argv[1], nodes) : nodes > 0 ? run_shapes(nodes, 0) : run_files(argc - 1, argv + 1));
+  printf("%d\n", run ? run(nodes) : nodes > 0 ? run_shapes(nodes, run_once) : run_files(argc - 1, argv + 1));
   return 0;
 }

@@ -5,6 +5,12 @@
 #include <stdlib.h>
 #include <string.h>
 
+Pair *next_pair(Pairs *p, const char *name) {
+  Pair *pair = &p->pair[p->count++];
+  snprintf(pair->name, MAX_NAME, "%s", name);
+  return pair;
+}
+
 static void stop(const Pairs *p, const Pair *pair, const char *way, unsigned refusal) {
   if (refusal != 0) printf("%s: %s: %s: refused %u\n", p->title, pair->name, way, refusal);
   else printf("%s: %s: %s and %s differ\n", p->title, pair->name, p->way[0], p->way[1]);

@@ -25,6 +25,9 @@ typedef struct {
 
 typedef struct { double time[2], ratio, worst; const char *worst_name; } PairMeans;  // geometric means; times in microseconds
 
+// One more pair, whose tables are still to be written.
+Pair *next_pair(Pairs *pairs, const char *name);
+
 // Runs every pair once in each round; ends the program where a call is refused or the two answers differ.
 void run_pairs(Pairs *pairs);
 

@@ -3,13 +3,16 @@
 #define ROWS_CALL_H
 #include "instance.h"
 
-enum { MAX_TABLE = 4096 };
+enum { MAX_TABLE = 4489 };
 
-// The instance as a table of edition 1; the answer is its length in bytes.
-size_t write_table(const Instance *inst, uint8_t *table);
-
-// The same in edition 2, with one firmness for all edges.
+// How an instance is written as a table: the edition, in edition 2 the firmness of all edges, and the least number of bytes for a number.
+// Its steps are checks with names of one byte, or full steps: adjustments with the largest tolerance and the longest name.
 enum { MUST, SOFT };
+typedef struct { unsigned edition, firmness, full_steps; int width; } Form;
+size_t write_form(const Instance *inst, Form form, uint8_t *table);
+
+// The shortest table of an instance, in edition 1, and in edition 2 with one firmness for all edges; the answer is its length in bytes.
+size_t write_table(const Instance *inst, uint8_t *table);
 size_t write_edition_2(const Instance *inst, unsigned firmness, uint8_t *table);
 
 // Rows of a table; 0, or the number of the refusal.

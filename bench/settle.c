@@ -15,11 +15,6 @@ typedef void (*MakeSoft)(SoftInstance *, size_t, size_t, size_t, uint64_t);
 static void rows_of(const uint8_t *table, size_t length, ChartAnswer *answer) {
   answer->refusal = call_rows(table, length, answer->rows, MAX_NODES);
 }
-static Pair *next_pair(Pairs *p, const char *name) {
-  Pair *pair = &p->pair[p->count++];
-  snprintf(pair->name, MAX_NAME, "%s", name);
-  return pair;
-}
 
 static void add_soft(Pairs *p, const SoftInstance *soft) {
   Pair *pair = next_pair(p, soft->written.name);

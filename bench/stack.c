@@ -14,19 +14,20 @@ enum { STACK = 1 << 20, PAINT = 0xA5, SEEDS = 2, SIZES = 4, SMALLEST = 8, EDGES_
 typedef struct { const Instance *inst; const uint8_t *table; size_t length; } Input;
 typedef struct { const char *name; uint64_t (*run)(const Input *); size_t depth; unsigned done, refused; } Call;
 
-static uint8_t rows[MAX_NODES];
+static uint8_t rows[MAX_NODES], shortest[YUVATONDRO_MAX_SHORTEST];
 static uint16_t order[MAX_POINTS];
 static size_t records[4 * MAX_EDGES];
 
 static uint64_t run_nothing(const Input *in) { return in->length == 0; }
 static uint64_t run_counts(const Input *in) { return yuvatondro_counts(in->table, in->length); }
 static uint64_t run_name(const Input *in) { return yuvatondro_name(in->table, in->length, 0); }
+static uint64_t run_write(const Input *in) { return yuvatondro_write(in->table, in->length, shortest, YUVATONDRO_MAX_SHORTEST); }
 static uint64_t run_rows(const Input *in) { return yuvatondro_rows(in->table, in->length, rows, MAX_NODES); }
 static uint64_t run_records(const Input *in) { return yuvatondro_records(in->inst->nodes, records, 4 * in->inst->edges, rows, MAX_NODES); }
 static uint64_t run_chart(const Input *in) { return yuvatondro_chart(in->table, in->length, rows, MAX_NODES, order, MAX_POINTS); }
 
-static Call calls[] = { { "counts", run_counts, 0, 0, 0 }, { "name", run_name, 0, 0, 0 }, { "rows", run_rows, 0, 0, 0 },
-                        { "records", run_records, 0, 0, 0 }, { "chart", run_chart, 0, 0, 0 } };
+static Call calls[] = { { "counts", run_counts, 0, 0, 0 }, { "name", run_name, 0, 0, 0 }, { "write", run_write, 0, 0, 0 },
+                        { "rows", run_rows, 0, 0, 0 }, { "records", run_records, 0, 0, 0 }, { "chart", run_chart, 0, 0, 0 } };
 enum { CALLS = sizeof calls / sizeof *calls };
 
 static uint8_t stack[STACK];
