@@ -1,7 +1,7 @@
 // Room to find an order in, of two sizes.
 use buffers::store_u16;
-use fewest::find_fewest;
 use points::limits::MAX_POINTS;
+use sweep::find_fewest;
 use table::limits::MAX_EDGES;
 ghost use mathlib.Core.Path.{_≡_};
 ghost use mathlib.Core.Bool.{true};

@@ -2,6 +2,5 @@ pub mod FewestLaws
 pub mod CountableLaws
 pub mod DraftLaws
 pub mod TurnLaws
-pub mod StartedLaws
 pub mod CompleteLaws
 pub mod SampleLaws

@@ -1,3 +1,2 @@
--- Why it holds, by subject.
-pub mod DrainLaws
+-- Why it holds.
 pub mod DriveLaws

@@ -1,7 +1,5 @@
 // Best rows of a network of edges with gaps and weights, and a flow that certifies them: a primal-dual method with supply and demand by node.
-mod drain;
-
-use crate::drain::drain_nodes;
+use drain::drain_nodes;
 use relaxation::arcs::link_lists;
 use relaxation::relax::relax_above;
 use start::begin::ease_flow;

@@ -1,9 +1,9 @@
 -- Prepared, started and improved, one after the other.
 use native.Mathlib.Omega.{arith}
 use denote.Ref.{now}
 use Rattle.fewest.proofs.DraftLaws as laws
-use Rattle.fewest.proofs.find_fewest.Statement.{statement}
-use Rattle.fewest.proofs.find_fewest.Tie as tie
+use Rattle.sweep.proofs.find_fewest.Statement.{statement}
+use Rattle.sweep.proofs.find_fewest.Tie as tie
 
 prepare-ends-requires : tie.Need-prepare-ends-requires
 prepare-ends-requires c κs =

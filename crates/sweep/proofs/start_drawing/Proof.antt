@@ -1,9 +1,9 @@
 -- The start order in its lists, with its positions and its crossings, is the best so far.
 use native.Mathlib.Omega.{arith}
 use Rattle.fewest.proofs.DraftLaws.{scratch-same}
-use Rattle.fewest.proofs.StartedLaws as laws
-use Rattle.fewest.proofs.start_drawing.Statement.{statement}
-use Rattle.fewest.proofs.start_drawing.Tie as tie
+use Rattle.sweep.proofs.StartedLaws as laws
+use Rattle.sweep.proofs.start_drawing.Statement.{statement}
+use Rattle.sweep.proofs.start_drawing.Tie as tie
 
 sub-count : tie.Need-sub-count
 sub-count c = omega (arith, c .before .before .before .before .before .before .before .before .before .before .before .pre .1 .1 .1 .0 .first-long)

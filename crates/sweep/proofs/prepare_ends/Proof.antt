@@ -1,10 +1,10 @@
 -- Every end is a point, and every point has a place in the lists.
 use native.Mathlib.Omega.{arith}
 use Rattle.buffers.proofs.ListLaws.{below-higher}
 use Rattle.fewest.proofs.DraftLaws as laws
 use borrow.Author.Needs.{needs}
-use Rattle.fewest.proofs.prepare_ends.Statement.{statement}
-use Rattle.fewest.proofs.prepare_ends.Tie as tie
+use Rattle.sweep.proofs.prepare_ends.Statement.{statement}
+use Rattle.sweep.proofs.prepare_ends.Tie as tie
 
 link-points-requires : tie.Need-link-points-requires
 link-points-requires c κs = let s = c .before .before .before .before .before .before .before .before .before .before .before .pre in (below-higher (s .0 .lower-in) (s .1 .0 .heads-long), s .1 .0 .next-long)

@@ -4,10 +4,10 @@ use native.Mathlib.Nat.{not-suc-le-zero, le-antisymm}
 use mathlib.Core.Path.{subst}
 use Prim.Native.Nat.{ℕ, _-_, _≤_}
 use denote.Ref.{now}
-use Rattle.network.specs.Drain.{NextSupply}
-use Rattle.network.proofs.DriveLaws.{found-turn}
-use Rattle.network.proofs.drain.find_supply.Statement.{statement}
-use Rattle.network.proofs.drain.find_supply.Tie as tie
+use Rattle.drain.specs.Drain.{NextSupply}
+use Rattle.drain.proofs.DriveLaws.{found-turn}
+use Rattle.drain.proofs.find_supply.Statement.{statement}
+use Rattle.drain.proofs.find_supply.Tie as tie
 
 abbrev Inv-loop : tie.InvT-loop
 Inv-loop y supply n best₀ v₀ best v = NextSupply n v supply best × (v ≤ n)

@@ -11,7 +11,7 @@ ghost use Prim.Native.Nat.{_<_};
 ghost use lib.ListN.{length};
 ghost use Rattle.transport.specs.Flow.{Flows};
 ghost use Rattle.relaxation.specs.Low.{RowsLow};
-ghost use Rattle.network.specs.Drain.{Sendable, Sent, Drained, Picks, NextSupply, DrainedAll};
+ghost use Rattle.drain.specs.Drain.{Sendable, Sent, Drained, Picks, NextSupply, DrainedAll};
 ghost use Rattle.relaxation.specs.Limits.{weightLimit, calmLimit};
 ghost use Rattle.buffers.specs.Lists.{sum};
 ghost use Rattle.relaxation.specs.Network.{Shaped, Narrow, Lengths};

@@ -1,0 +1,3 @@
+-- Why it holds, by subject.
+pub mod DrainLaws
+pub mod DriveLaws

@@ -1,0 +1,2 @@
+-- The start order is the best so far.
+pub mod StartedLaws
