@@ -1,5 +1,5 @@
--- What a table says apart from its bytes: its steps and edges, as document 02 compares tables by. Where a table says it, and in how many
--- bytes, is left out; so two tables are equal where they say the same.
+-- What a table says apart from its bytes: the steps and the edges (document 02: arrows) by which document 02 compares tables. How many bytes
+-- each number has, where a name stands, and the edition are left out; so two tables are equal where they say the same.
 use mathlib.Core.List.{List, map}
 use Prim.Native.Nat.{ℕ}
 use lib.ListN.{take, drop}
