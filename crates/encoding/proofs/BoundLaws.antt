@@ -20,7 +20,7 @@ use Rattle.encoding.specs.Limits.{shortStepBytes, shortEdgeBytes}
 use Rattle.encoding.specs.Said.{saidStep}
 use Rattle.encoding.specs.Shortest.{shortNumber, shortKind, shortName, shortStep, editionFor, shortFirmness, shortEdge, each, shortList}
 use Rattle.encoding.specs.Writable.{WritableSteps, WritableEdges}
-use Rattle.encoding.proofs.ShortLaws.{bytes-one, bytes-two}
+use Rattle.encoding.proofs.ShortLaws.{bytes-one, bytes-two, soft-byte}
 use Rattle.encoding.proofs.PutLaws.{shortEnds, shortSizes, edge-parts, said-parts, list-parts}
 
 -- ---- a step and an edge
@@ -43,12 +43,11 @@ step-bytes bytes s f =
 
 firmness-bytes : (edition : ℕ) (soft : Bool) → length (shortFirmness edition soft) ≤ 1
 unfolding shortFirmness
-firmness-bytes edition soft = go (eqb edition minEdition) soft
+firmness-bytes edition soft = go (eqb edition minEdition)
   where
-    go : (t soft : Bool) → length (cond t [] (shortNumber (cond soft softness 0))) ≤ 1
-    go true soft = omega arith
-    go false true = omega (arith, bytes-one 1 (omega arith))
-    go false false = omega (arith, bytes-one 0 (omega arith))
+    go : (t : Bool) → length (cond t [] (shortNumber (cond soft softness 0))) ≤ 1
+    go true = omega arith
+    go false = omega (arith, soft-byte soft)
 
 edge-bytes : (edition : ℕ) (e : TableEdge) → FairEdge maxSteps (ownEdge e) → length (shortEdge edition e) ≤ shortEdgeBytes
 edge-bytes edition e f =

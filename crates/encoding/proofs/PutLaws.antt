@@ -1,5 +1,5 @@
 -- The parts of a table put into a buffer: the bytes of a number, the parts of a step and of an edge, and the lists item by item.
-use mathlib.Core.Path.{_≡_, refl, sym, ap, subst}
+use mathlib.Core.Path.{_≡_, refl, sym, ap, subst, _∙_}
 use mathlib.Core.Bool.{Bool, cond}
 use mathlib.Core.List.{List, [], _∷_, _++_, map}
 use Prim.Native.Nat.{ℕ, _+_, _-_, _/_, _%_, _≤_, _<_}
@@ -17,7 +17,7 @@ use Rattle.labels.proofs.PutLaws.{room-first, room-then, name-part}
 use Rattle.encoding.specs.Limits.{numberLimit}
 use Rattle.encoding.specs.Said.{Said, saidStep}
 use Rattle.encoding.specs.Shortest.{shortNumber, shortKind, shortName, shortStep, editionFor, shortFirmness, shortEdge, each, shortList, shortest}
-use Rattle.encoding.proofs.ShortLaws.{short-one, short-two}
+use Rattle.encoding.proofs.ShortLaws.{short-one, short-two, bytes-one, soft-byte}
 
 -- ---- a number
 
@@ -84,16 +84,18 @@ module _ (edition : ℕ) (soft : Bool) (l : List ℕ) (i : ℕ) where
   unfolding shortFirmness
   stored-untold e = rw (eq-eqb edition minEdition e) (stored-none l i)
 
-  module _ (d : edition ≡ minEdition → ⊥) (v : ℕ) (e : cond soft softness 0 ≡ v) where
-    firmness-is : shortFirmness edition soft ≡ shortNumber v
+  module _ (d : edition ≡ minEdition → ⊥) where
+    firmness-is : shortFirmness edition soft ≡ shortNumber (cond soft softness 0)
     unfolding shortFirmness
-    firmness-is = rw (ne-eqb edition minEdition d, e)
+    firmness-is = rw (ne-eqb edition minEdition d)
 
-    pub room-firmness : i + length (shortFirmness edition soft) ≤ length l → i + length (shortNumber v) ≤ length l
-    room-firmness fits = subst (λ t. i + length t ≤ length l) firmness-is fits
+    -- room for a firmness is room for any number of one byte
+    pub room-firmness : (v : ℕ) → v < 0x80 → i + length (shortFirmness edition soft) ≤ length l → i + length (shortNumber v) ≤ length l
+    room-firmness v h fits = omega (arith, fits, ap length firmness-is, soft-byte soft, bytes-one v h)
 
-    pub stored-firmness : {l₁ : List ℕ} {p : ℕ} → Stored l i (shortNumber v) l₁ p → Stored l i (shortFirmness edition soft) l₁ p
-    stored-firmness {l₁} {p} s = subst (λ t. Stored l i t l₁ p) (sym firmness-is) s
+    pub stored-firmness : (v : ℕ) → cond soft softness 0 ≡ v → {l₁ : List ℕ} {p : ℕ} → Stored l i (shortNumber v) l₁ p
+        → Stored l i (shortFirmness edition soft) l₁ p
+    stored-firmness v e {l₁} {p} s = subst (λ t. Stored l i t l₁ p) (sym (firmness-is ∙ ap shortNumber e)) s
 
 -- ---- an edge: its ends, its sizes and its firmness
 

@@ -1,11 +1,13 @@
 -- A number of a table in its fewest bytes: what they are, and how many.
 use mathlib.Core.Path.{_≡_, ap}
+use mathlib.Core.Bool.{Bool, true, false, cond}
 use mathlib.Core.List.{[], _∷_}
 use Prim.Native.Nat.{ℕ, _+_, _/_, _%_, _≤_, _<_}
 use native.Mathlib.Decide.{decLt}
 use native.Mathlib.Omega.{arith}
 use borrow.Author.Tests.{lt-ltb, le-ltb}
 use lib.ListN.{length}
+use Rattle.table.specs.Limits.{softness}
 use Rattle.encoding.specs.Limits.{numberLimit}
 use Rattle.encoding.specs.Shortest.{groups, shortNumber}
 
@@ -26,3 +28,8 @@ bytes-two v h = go (decLt v 0x80)
     go : Dec (v < 0x80) → length (shortNumber v) ≤ 2
     go (yes l) = omega (arith, bytes-one v l)
     go (no l) = omega (arith, ap length (short-two v (omega arith) h))
+
+-- the number of a firmness has one byte
+pub soft-byte : (soft : Bool) → length (shortNumber (cond soft softness 0)) ≡ 1
+soft-byte true = bytes-one 1 (omega arith)
+soft-byte false = bytes-one 0 (omega arith)

@@ -20,7 +20,7 @@ use Rattle.table.proofs.PlaceLaws.{limits-place}
 use Rattle.table.proofs.FairLaws.{end-fair, edge-fair}
 use Rattle.acyclic.specs.Oriented.{anySoft}
 use Rattle.encoding.specs.Shortest.{shortNumber, editionFor, shortFirmness, shortEdge, each}
-use Rattle.encoding.proofs.ShortLaws.{bytes-one}
+use Rattle.encoding.proofs.ShortLaws.{soft-byte}
 use Rattle.encoding.proofs.PutLaws.{shortEnds, shortSizes}
 use Rattle.writing.specs.Sayable.{All, nothing, also, SayableEdge}
 use Rattle.writing.proofs.StandsLaws.{Stands, stands-first, stands-then}
@@ -101,10 +101,6 @@ soft-told : (soft : Bool) → eqb (cond soft softness 0) softness ≡ soft
 soft-told true = refl
 soft-told false = refl
 
-soft-byte : (soft : Bool) → length (shortNumber (cond soft softness 0)) ≡ 1
-soft-byte true = bytes-one 1 (omega arith)
-soft-byte false = bytes-one 0 (omega arith)
-
 module _ (s : List ℕ) (edition at : ℕ) where
   firmness-back : (soft : Bool) → (eqb edition minEdition ≡ true → soft ≡ false) → Stands s at (shortFirmness edition soft)
       → firmnessAt s edition at ≡ got (cond soft softness 0) (at + length (shortFirmness edition soft))
@@ -178,6 +174,7 @@ edition-some l = go (anySoft l)
     go true = omega arith
     go false = omega arith
 
+-- edges that can be said can be told in the last edition, and in the first where none is soft
 all-tellable : (edition n : ℕ) (l : List TableEdge) → (eqb edition minEdition ≡ true → anySoft l ≡ false) → All (SayableEdge n) l → All (TellableEdge edition n) l
 unfolding anySoft
 all-tellable edition n [] h nothing = nothing

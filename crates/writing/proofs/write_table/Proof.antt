@@ -27,7 +27,7 @@ write-page-requires : tie.Need-write-page-requires
 write-page-requires c κs = let t = read-accepted _ _ (c .before .before .before .before .read-table .ensures) (c .before .before .enum-told .given .1) in (writable _ _ t, omega arith)
 
 returns : tie.Need-returns
-returns c = let s = c .before .before .before .before .before .before .before .before .before .before .args in let t = read-accepted _ _ (c .before .before .before .before .before .before .before .read-table .ensures) (c .before .before .before .before .before .enum-told .given .1) in call-short _ _ t (now (s .out)) (replicate maxShortest 0) _ _ (omega arith) (c .before .before .write-page .ensures) (c .if1 .taken)
+returns c = let s = c .before .before .before .before .before .before .before .before .before .before .args in let t = read-accepted _ _ (c .before .before .before .before .before .before .before .read-table .ensures) (c .before .before .before .before .before .enum-told .given .1) in call-short _ _ t (now (s .out)) (replicate maxShortest 0) _ _ (omega arith) (c .before .before .write-page .ensures) (omega (arith, c .if1 .taken))
 
 array-share-prefix-page : tie.Need-array-share-prefix-page
 array-share-prefix-page c = let s = c .before .before .before .before .before .before .before .before .before .before .args in let t = read-accepted _ _ (c .before .before .before .before .before .before .before .read-table .ensures) (c .before .before .before .before .before .enum-told .given .1) in page-inside _ _ t (now (s .out)) (replicate maxShortest 0) _ _ (omega arith) (c .before .before .write-page .ensures)

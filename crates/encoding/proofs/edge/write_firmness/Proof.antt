@@ -13,7 +13,7 @@ returns : tie.Need-returns
 returns c = let s = c .before .before in stored-untold (s .args .edition) (s .args .soft) (now (s .args .out)) (s .args .at) (c .if1 .taken)
 
 write-number-requires : tie.Need-write-number-requires
-write-number-requires c κs = let s = c .before .before .before .before in (omega arith, room-firmness (s .args .edition) (s .args .soft) (now (s .args .out)) (s .args .at) (c .before .before .if1 .left) softness (ap (λ t. cond t softness 0) (c .before .if2 .taken)) (s .pre))
+write-number-requires c κs = let s = c .before .before .before .before in (omega arith, room-firmness (s .args .edition) (s .args .soft) (now (s .args .out)) (s .args .at) (c .before .before .if1 .left) _ (omega arith) (s .pre))
 
 same-length : tie.Need-same-length
 same-length c = search needs
@@ -22,7 +22,7 @@ returns-2 : tie.Need-returns-2
 returns-2 c = let s = c .before .before .before .before .before .before .before in stored-firmness (s .args .edition) (s .args .soft) (now (s .args .out)) (s .args .at) (c .before .before .before .before .before .if1 .left) softness (ap (λ t. cond t softness 0) (c .before .before .before .before .if2 .taken)) (c .before .before .write-number .ensures)
 
 write-number-requires-2 : tie.Need-write-number-requires-2
-write-number-requires-2 c κs = let s = c .before .before .before .before in (omega arith, room-firmness (s .args .edition) (s .args .soft) (now (s .args .out)) (s .args .at) (c .before .before .if1 .left) 0 (ap (λ t. cond t softness 0) (c .before .if2 .left)) (s .pre))
+write-number-requires-2 c κs = let s = c .before .before .before .before in (omega arith, room-firmness (s .args .edition) (s .args .soft) (now (s .args .out)) (s .args .at) (c .before .before .if1 .left) _ (omega arith) (s .pre))
 
 same-length-2 : tie.Need-same-length-2
 same-length-2 c = search needs
