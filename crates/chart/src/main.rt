@@ -2,9 +2,9 @@
 use libc::STDIN_FILENO;
 use libc::STDOUT_FILENO;
 use listing::ListingAnswer;
-use listing::limits::MAX_INPUT;
 use listing::limits::MAX_LISTING;
 use listing::write_listing;
+use table::limits::MAX_INPUT;
 
 // Of a longer input the first bytes are judged, which makes no difference: no accepted table is that long (`printed-whole`). No listing
 // is longer than the page (`listing-short`), so that it is never short.

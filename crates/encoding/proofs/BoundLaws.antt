@@ -9,14 +9,14 @@ use lib.ListN.{length, getD, take, drop, length-append, length-drop}
 use lib.Seq.{length-take-le, getD-take}
 use Rattle.graph.specs.declared.TableEdge.{TableEdge}
 use Rattle.graph.specs.Directed.{noTableEdge, ownEdge}
+use Rattle.table.specs.declared.rule.Rule.the-variants.{Shortest}
 use Rattle.table.specs.declared.types.Kind.{Kind}
 use Rattle.table.specs.declared.types.Kind.the-variants.{Check, Adjust, Wait}
 use Rattle.table.specs.declared.types.Step.{Step}
-use Rattle.table.specs.Limits.{minEdition, maxEdition, maxSteps, maxEdges, maxName, softness}
+use Rattle.table.specs.Limits.{minEdition, maxEdition, maxSteps, maxEdges, maxName, softness, stepBytes, edgeBytes}
 use Rattle.table.specs.Calls.{noStep}
 use Rattle.table.specs.Fair.{KindInRange, FairStep, FairEdge}
 use Rattle.acyclic.specs.Oriented.{anySoft}
-use Rattle.encoding.specs.Limits.{shortStepBytes, shortEdgeBytes}
 use Rattle.encoding.specs.Said.{saidStep}
 use Rattle.encoding.specs.Shortest.{shortNumber, shortKind, shortName, shortStep, editionFor, shortFirmness, shortEdge, each, shortList}
 use Rattle.encoding.specs.Writable.{WritableSteps, WritableEdges}
@@ -34,7 +34,7 @@ name-bytes : (name : List ℕ) → length name ≤ maxName → length (shortName
 unfolding shortName
 name-bytes name h = omega (arith, length-append (shortNumber (length name)) name, bytes-one (length name) (omega arith))
 
-step-bytes : (bytes : List ℕ) (s : Step) → FairStep bytes s → length (shortStep (saidStep bytes s)) ≤ shortStepBytes
+step-bytes : (bytes : List ℕ) (s : Step) → FairStep bytes s → length (shortStep (saidStep bytes s)) ≤ stepBytes Shortest
 unfolding shortStep
 step-bytes bytes s f =
     let name = take (s .len) (drop (s .start) bytes) in
@@ -49,7 +49,7 @@ firmness-bytes edition soft = go (eqb edition minEdition)
     go true = omega arith
     go false = omega (arith, soft-byte soft)
 
-edge-bytes : (edition : ℕ) (e : TableEdge) → FairEdge maxSteps (ownEdge e) → length (shortEdge edition e) ≤ shortEdgeBytes
+edge-bytes : (edition : ℕ) (e : TableEdge) → FairEdge maxSteps (ownEdge e) → length (shortEdge edition e) ≤ edgeBytes Shortest maxSteps
 edge-bytes edition e f =
     let whole = ap length (edge-parts edition e .is) ∙ length-append (shortEnds e ++ shortSizes e) (shortFirmness edition (e .soft)) in
     let front = length-append (shortEnds e) (shortSizes e) in
@@ -86,20 +86,20 @@ some-bytes write none w n l few h =
 -- ---- the lists, and the edition
 
 pub steps-bytes : (bytes : List ℕ) (steps : List Step) (n : ℕ) → WritableSteps bytes steps n
-    → length (shortList shortStep (map (saidStep bytes) (take n steps))) ≤ 1 + maxSteps * shortStepBytes
+    → length (shortList shortStep (map (saidStep bytes) (take n steps))) ≤ 1 + maxSteps * stepBytes Shortest
 steps-bytes bytes steps n g =
     let few : n ≤ length steps = omega (arith, g .few, g .long) in
     let write : Step → List ℕ = λ s. shortStep (saidStep bytes s) in
     let whole = ap length (said-parts bytes steps n few .is) ∙ length-append (shortNumber n) (each write (take n steps)) in
-    let all = some-bytes write noStep shortStepBytes n steps few (λ i h. step-bytes bytes (getD steps i noStep) (g .each-step i h)) in
+    let all = some-bytes write noStep (stepBytes Shortest) n steps few (λ i h. step-bytes bytes (getD steps i noStep) (g .each-step i h)) in
     omega (arith, whole, all, g .few, bytes-one n (omega (arith, g .few)))
 
 pub edges-bytes : (edition : ℕ) (edges : List TableEdge) (m : ℕ) → WritableEdges edges m
-    → length (shortList (shortEdge edition) (take m edges)) ≤ 2 + maxEdges * shortEdgeBytes
+    → length (shortList (shortEdge edition) (take m edges)) ≤ 2 + maxEdges * edgeBytes Shortest maxSteps
 edges-bytes edition edges m g =
     let few : m ≤ length edges = omega (arith, g .few, g .long) in
     let whole = ap length (list-parts (shortEdge edition) edges m few .is) ∙ length-append (shortNumber m) (each (shortEdge edition) (take m edges)) in
-    let all = some-bytes (shortEdge edition) noTableEdge shortEdgeBytes m edges few (λ i h. edge-bytes edition (getD edges i noTableEdge) (g .each-edge i h)) in
+    let all = some-bytes (shortEdge edition) noTableEdge (edgeBytes Shortest maxSteps) m edges few (λ i h. edge-bytes edition (getD edges i noTableEdge) (g .each-edge i h)) in
     omega (arith, whole, all, g .few, bytes-two m (omega (arith, g .few)))
 
 pub edition-low : (edges : List TableEdge) → editionFor edges ≤ maxEdition

@@ -19,7 +19,7 @@ use Rattle.table.specs.declared.types.TableRead.{TableRead}
 use Rattle.table.specs.Limits.{maxSteps, maxEdges}
 use Rattle.outcome.specs.Refusal.{Outcome, done, refused, thenDo, told, bare, verdictNumbers, refusalIn}
 use Rattle.table.specs.Table.{Contents, contentsOf, read}
-use Rattle.table.specs.Calls.{tableRead, readCall}
+use Rattle.table.specs.Calls.{readCallBy, readCall}
 use Rattle.buffers.specs.Padded.{padded}
 use Rattle.table.specs.Fair.{FairEdge}
 use Rattle.orientation.specs.Orientable.{Orientable}
@@ -185,7 +185,7 @@ module _ (s : List ℕ) where
     table-here = ap (λ (x : PlaceEnd). x .table) e
 
     pub table-steps : r .table .n ≡ (stepsIn s)
-    unfolding readCall
+    unfolding readCallBy
     table-steps = ap (λ (t : Table). t .n) table-here
 
 -- which edges are turned, as the call hands it on

@@ -9,16 +9,15 @@ use borrow.Author.Tests.{ltb-true, leb-true}
 use lib.Dec.{ltb, leb}
 use lib.ListN.{length, getD, take, drop, length-append, length-take}
 use Rattle.graph.specs.declared.Edge.{Edge}
-use Rattle.graph.specs.Rows.{at, noEdge, total, Within}
+use Rattle.graph.specs.Rows.{at, noEdge, total}
 use Rattle.graph.specs.Search.{run}
 use Rattle.table.specs.declared.types.Kind.{Kind}
 use Rattle.table.specs.declared.types.Kind.the-variants.{Check, Adjust, Wait}
-use Rattle.outcome.specs.declared.Refusal.{Refusal}
-use Rattle.outcome.specs.declared.Refusal.the-variants.{Cut, Overlong, BadEdition, ManySteps, BadKind, OutOfRange, BadNameByte, ManyEdges, BadEnd, Spare, Loop, ManyPoints, ShortBuffer, NoStep, BadFirmness}
+use Rattle.outcome.specs.declared.Refusal.the-variants.{ManyPoints}
 use Rattle.table.specs.declared.types.Step.{Step}
-use Rattle.table.specs.Limits.{maxSteps, maxEdges, maxWeight}
+use Rattle.table.specs.Limits.{maxEdges, maxWeight}
 use Rattle.points.specs.Limits.{maxPoints}
-use Rattle.outcome.specs.Refusal.{Outcome, done, refused, thenDo, demand, numbersOf}
+use Rattle.outcome.specs.Refusal.{Outcome, done, refused, thenDo, demand}
 use Rattle.table.specs.Table.{Contents, read}
 use Rattle.table.specs.Calls.{noStep}
 use Rattle.table.specs.Fair.{KindInRange, FairStep, Fair}
@@ -27,7 +26,7 @@ use Rattle.layering.specs.Calls.{tableRowsFound, orientedIn, turnedIn}
 use Rattle.layering.proofs.RankLaws.{ranked-rows}
 use Rattle.layering.proofs.CallLaws.{read-oriented}
 use Rattle.rows.specs.Placed.{topRow, FairEdges}
-use Rattle.rows.proofs.StepLaws.{StepLow, never}
+use Rattle.rows.proofs.StepLaws.{never}
 use Rattle.ordering.proofs.StepLaws.{chart-of-step}
 use Rattle.points.specs.Points.{Dummy, between, dummies, rowCount}
 use Rattle.fewest.specs.Fewest.{Drawing, drawingOf}
@@ -35,7 +34,8 @@ use Rattle.ordering.specs.Calls.{Placing, pointCount, unlessMany, chartOfTable}
 use Rattle.fewest.proofs.CompleteLaws.{drawing-rows, drawing-count}
 use Rattle.ordering.proofs.FigureLaws.{crossings-low, total-low}
 use Rattle.labels.specs.Text.{text, newline, decimal, blanked}
-use Rattle.lines.specs.Lines.{line, refusalText}
+use Rattle.lines.specs.Lines.{line}
+use Rattle.lines.proofs.RefusalLaws.{refusal-short}
 use Rattle.labels.specs.Labels.{kindText, stepText, dummyText}
 use Rattle.listing.specs.Listing.{noDummy, dummySign, pointText, headText, rowLines, chartText, outcomeText, listing}
 use Rattle.listing.specs.Widths.{headBytes, rowBytes, pointBytes, maxListing}
@@ -190,30 +190,6 @@ module _ (bytes : List ℕ) (p : Placing) (h : Drawable bytes p) where
       let head = headText (length steps-of) (length (p .contents .edges)) (rowCount (p .rows)) (total edges-of (at (p .rows))) (drawing .crossings) in
       rw (length-append head (rowLines show 0 (drawing .order))) (omega (arith, heading-short, lines-short))
 
--- ---- a refusal
-
-one-short : (x : ℕ) → x < tens 2 → length (line (text "refused") (decimal x ∷ [])) ≤ maxListing
-unfolding blanked
-one-short x h = simp length-append (omega (arith, decimal-short 1 x h))
-
-refusal-short : (r : Refusal) → StepLow r → length (refusalText r) ≤ maxListing
-unfolding blanked
-refusal-short Cut h = one-short 1 (omega arith)
-refusal-short Overlong h = one-short 2 (omega arith)
-refusal-short BadEdition h = one-short 3 (omega arith)
-refusal-short ManySteps h = one-short 4 (omega arith)
-refusal-short BadKind h = one-short 5 (omega arith)
-refusal-short OutOfRange h = one-short 6 (omega arith)
-refusal-short BadNameByte h = one-short 7 (omega arith)
-refusal-short ManyEdges h = one-short 8 (omega arith)
-refusal-short BadEnd h = one-short 9 (omega arith)
-refusal-short Spare h = one-short 10 (omega arith)
-refusal-short (Loop s) h = simp length-append (omega (arith, decimal-short 1 11 (omega arith), decimal-short 1 s (omega arith)))
-refusal-short ManyPoints h = one-short 12 (omega arith)
-refusal-short ShortBuffer h = one-short 13 (omega arith)
-refusal-short NoStep h = one-short 14 (omega arith)
-refusal-short BadFirmness h = one-short 15 (omega arith)
-
 -- ---- the outcomes of a table
 
 module _ (bytes : List ℕ) where
@@ -254,4 +230,4 @@ listing-short bytes = go (chartOfTable bytes) refl
   where
     go : (o : Outcome Placing) → chartOfTable bytes ≡ o → length (outcomeText bytes o) ≤ maxListing
     go (done p) e = chart-short bytes p (drawable bytes e)
-    go (refused r) e = refusal-short r (chart-of-step bytes e)
+    go (refused r) e = omega (arith, refusal-short r (omega (arith, chart-of-step bytes e)))

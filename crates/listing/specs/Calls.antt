@@ -5,7 +5,7 @@ use Prim.Native.Nat.{ℕ}
 use lib.Dec.{leb}
 use lib.ListN.{length, take, drop}
 use Rattle.outcome.specs.declared.Refusal.the-variants.{ShortBuffer}
-use Rattle.listing.specs.Widths.{maxInput}
+use Rattle.table.specs.Limits.{maxInput}
 use Rattle.outcome.specs.Refusal.{numberOf}
 use Rattle.listing.specs.declared.ListingAnswer.{ListingAnswer}
 use Rattle.listing.specs.declared.ListingAnswer.the-variants.{Written, Short}

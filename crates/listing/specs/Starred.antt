@@ -13,7 +13,7 @@ starredListings =
     case (hex "") (text "refused 1\n") ∷
     case (hex "02") (text "refused 1\n") ∷
     case (hex "03") (text "refused 3\n") ∷
-    case (hex "81 00 00 00") (text "chart 0 0 0 0 0\n") ∷
+    case (hex "81 00 00 00") (text "refused 2\n") ∷
     case (hex "80 80 80") (text "refused 2\n") ∷
     case (hex "01 40") (text "refused 1\n") ∷
     case (hex "01 41") (text "refused 4\n") ∷

@@ -1,4 +1,4 @@
--- How long a listing can be, and how much input is judged. `src/limits.rt` names the same numbers for the code.
+-- How long a listing can be. `src/limits.rt` names the same numbers for the code.
 use Prim.Native.Nat.{ℕ, suc, _+_, _*_}
 use Rattle.table.specs.Limits.{maxName}
 use Rattle.points.specs.Limits.{maxPoints}
@@ -19,7 +19,3 @@ pointBytes = 7 + maxName
 -- the longest listing is no longer: as many rows as there can be, and as many points
 abbrev pub maxListing : ℕ
 maxListing = headBytes + suc topRow * rowBytes + maxPoints * pointBytes
-
--- what the program takes from standard input: more than any accepted table has
-abbrev pub maxInput : ℕ
-maxInput = 8192

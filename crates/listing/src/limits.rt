@@ -14,6 +14,3 @@ const POINT_BYTES: usize = 7 + MAX_NAME;
 const MAX_ROWS: usize = (MAX_STEPS - 1) * MAX_GAP + 1;
 
 pub const MAX_LISTING: usize = HEAD_BYTES + MAX_ROWS * ROW_BYTES + MAX_POINTS * POINT_BYTES;
-
-// What the program takes from standard input. No accepted table is that long.
-pub const MAX_INPUT: usize = 8192;

@@ -14,13 +14,14 @@ use Rattle.table.specs.declared.types.TableRead.{TableRead}
 use Rattle.queries.specs.declared.types.NameAnswer.{NameAnswer}
 use Rattle.buffers.specs.Padded.{padded}
 use Rattle.outcome.specs.Refusal.{Outcome, done, refused, thenDo, demand, numberOf, stepOf}
+use Rattle.table.specs.declared.rule.Rule.the-variants.{Shortest}
 use Rattle.table.specs.Limits.{maxSteps, maxName, maxTable}
 use Rattle.table.specs.Table.{Contents, read}
 use Rattle.table.specs.Calls.{noStep}
 use Rattle.queries.specs.Calls.{Stretch, nameOf, nameFound, stretchNumbers, nameCall, nameNumbers, stretchOf}
 use Rattle.outcome.proofs.ToldLaws.{alone, told-refused, Values, told-done}
 use Rattle.table.proofs.AnswerLaws.{Told}
-use Rattle.table.proofs.FairLaws.{read-fair}
+use Rattle.table.proofs.FairLaws.{read-fair, read-short}
 use Rattle.table.proofs.RangeLaws.{OfReader, read-range, reader-alone}
 
 -- ---- from a table that was read
@@ -74,7 +75,7 @@ module _ (s : List ℕ) (i : ℕ) {a : NameAnswer} (e : nameNumbers a ≡ nameCa
 record Bounds (s : List ℕ) (x : Stretch) : Type 0 where
   inside : x .start + x .len ≤ length s
   short : x .len ≤ maxName
-  long : length s ≤ maxTable
+  long : length s ≤ maxTable Shortest
 
 bounds : (s : List ℕ) (i : ℕ) {x : Stretch} → nameFound s i ≡ done x → Bounds s x
 unfolding nameFound
@@ -85,7 +86,7 @@ bounds s i {x} e = go (read s) refl e
     step t true r l e =
         let fair = read-fair s r in
         let name = fair .each-step i (ltb-true i (length (t .steps)) l) in
-        subst (Bounds s) (ap stretchOf e) (record { inside = name .inside; short = name .short; long = fair .short })
+        subst (Bounds s) (ap stretchOf e) (record { inside = name .inside; short = name .short; long = read-short s r })
     step t false r l e = let z : _≡_ {A = ℕ} 0 1 = cc in absurd (omega arith)
 
     go : (o : Outcome Contents) → read s ≡ o
@@ -97,7 +98,7 @@ module _ (s : List ℕ) (i : ℕ) {start len : ℕ} (e : nameFound s i ≡ done 
   pub name-inside : start + len ≤ length s
   name-inside = bounds s i e .inside
 
-  pub name-low : (len ≤ maxName) × (start ≤ maxTable)
+  pub name-low : (len ≤ maxName) × (start ≤ maxTable Shortest)
   name-low = let b = bounds s i e in (b .short, omega (arith, b .inside, b .long))
 
 -- from a start to the end of a stretch are the bytes of that stretch

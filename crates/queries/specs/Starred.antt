@@ -8,7 +8,7 @@ use Rattle.table.specs.Starred.{Case, case}
 abbrev pub starredCounts : List Case
 starredCounts =
     case (hex "01 00 00") (0 ∷ 0 ∷ 0 ∷ []) ∷
-    case (hex "81 00 00 00") (0 ∷ 0 ∷ 0 ∷ []) ∷
+    case (hex "81 00 00 00") (2 ∷ []) ∷
     case (hex "") (1 ∷ []) ∷
     case (hex "02") (1 ∷ []) ∷
     case (hex "03") (3 ∷ []) ∷

@@ -9,14 +9,14 @@ use Rattle.table.specs.declared.types.Table.{Table}
 use Rattle.table.specs.Limits.{maxSteps, maxEdges}
 use Rattle.outcome.specs.Refusal.{done}
 use Rattle.table.specs.Table.{Contents, contentsOf, read}
-use Rattle.table.specs.Calls.{noStep, tableOf, readCall}
+use Rattle.table.specs.Calls.{noStep, tableOf, readCallBy, readCall}
 use Rattle.buffers.specs.Padded.{padded}
 use Rattle.table.proofs.FairLaws.{read-fair}
 use Rattle.buffers.proofs.PaddedLaws.{padded-long, padded-front}
 
 module _ (s : List ℕ) (table : Table) (same : table ≡ readCall s .table) (t : Contents) (said : read s ≡ done t) where
   whole : table ≡ tableOf (t .steps) (t .edges)
-  unfolding readCall
+  unfolding readCallBy
   whole = same ∙ ap (λ o. tableOf (contentsOf o .steps) (contentsOf o .edges)) said
 
   pub array-steps : table .n ≡ length (t .steps)

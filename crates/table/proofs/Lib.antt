@@ -12,3 +12,4 @@ pub mod ArrayLaws
 pub mod AnswerLaws
 pub mod RangeLaws
 pub mod PrefixLaws
+pub mod OldLaws

@@ -10,6 +10,7 @@ use Rattle.graph.specs.declared.TableEdge.{TableEdge}
 use Rattle.graph.specs.Directed.{noTableEdge}
 use Rattle.outcome.specs.declared.Refusal.{Refusal}
 use Rattle.outcome.specs.declared.Refusal.the-variants.{Spare}
+use Rattle.table.specs.declared.rule.Rule.{Rule}
 use Rattle.table.specs.declared.types.Step.{Step}
 use Rattle.outcome.specs.declared.Verdict.{Verdict}
 use Rattle.outcome.specs.declared.Verdict.the-variants.{Accepted, Refused}
@@ -39,22 +40,22 @@ module _ {A : Type 0} {k : ℕ} {blank : A} {what : Read (List A)} {verdict : Ve
   unfolding padded
   read-padded = rw (read-count, ← r .rest) (take-append-drop n list)
 
-module _ (s : List ℕ) (edition at : ℕ) where
-  pub lists-stop : {f : Refusal} → stepsAt s at ≡ fault f → listsAt s edition at ≡ fault f
+module _ (rule : Rule) (s : List ℕ) (edition at : ℕ) where
+  pub lists-stop : {f : Refusal} → stepsAt rule s at ≡ fault f → listsAt rule s edition at ≡ fault f
   unfolding listsAt
   lists-stop e = rw e
 
-  module _ {steps : List Step} {p : ℕ} (n : ℕ) (e : stepsAt s at ≡ got steps p) (l : length steps ≡ n) where
-    pub lists-cut : {f : Refusal} → edgesAt s edition n p ≡ fault f → listsAt s edition at ≡ fault f
+  module _ {steps : List Step} {p : ℕ} (n : ℕ) (e : stepsAt rule s at ≡ got steps p) (l : length steps ≡ n) where
+    pub lists-cut : {f : Refusal} → edgesAt rule s edition n p ≡ fault f → listsAt rule s edition at ≡ fault f
     unfolding listsAt
     lists-cut g = rw (e, l, g)
 
-    module _ {edges : List TableEdge} {q : ℕ} (g : edgesAt s edition n p ≡ got edges q) where
-      pub lists-spare : (q ≡ length s → ⊥) → listsAt s edition at ≡ fault Spare
+    module _ {edges : List TableEdge} {q : ℕ} (g : edgesAt rule s edition n p ≡ got edges q) where
+      pub lists-spare : (q ≡ length s → ⊥) → listsAt rule s edition at ≡ fault Spare
       unfolding listsAt
       lists-spare h = rw (e, l, g, ne-eqb q (length s) h)
 
-      pub lists-whole : q ≡ length s → listsAt s edition at ≡ got (record { steps = steps; edges = edges }) q
+      pub lists-whole : q ≡ length s → listsAt rule s edition at ≡ got (record { steps = steps; edges = edges }) q
       unfolding listsAt
       lists-whole h = rw (e, l, g, eq-eqb q (length s) h)
 

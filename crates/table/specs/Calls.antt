@@ -5,6 +5,8 @@ use lib.ListN.{length}
 use Rattle.graph.specs.declared.TableEdge.{TableEdge}
 use Rattle.graph.specs.Directed.{noTableEdge}
 use Rattle.buffers.specs.Padded.{padded}
+use Rattle.table.specs.declared.rule.Rule.{Rule}
+use Rattle.table.specs.declared.rule.Rule.the-variants.{Shortest}
 use Rattle.table.specs.declared.types.Kind.the-variants.{Check}
 use Rattle.table.specs.declared.types.Step.{Step}
 use Rattle.table.specs.declared.types.Table.{Table}
@@ -12,7 +14,7 @@ use Rattle.table.specs.declared.types.TableRead.{TableRead}
 use Rattle.outcome.specs.declared.Verdict.the-variants.{Accepted, Refused}
 use Rattle.table.specs.Limits.{maxSteps, maxEdges}
 use Rattle.outcome.specs.Refusal.{Outcome, done, refused, told, bare, verdictNumbers}
-use Rattle.table.specs.Table.{Contents, read, contentsOf}
+use Rattle.table.specs.Table.{Contents, readBy, contentsOf}
 
 -- what stands in an array behind its last step
 abbrev pub noStep : Step
@@ -38,8 +40,13 @@ pub record ReadEnd : Type 0 where
   pub table : Table
 
 -- 0 or the refusal's number, and the table that the bytes write down; a refused one is blank
-unfoldable pub readCall : List ℕ → ReadEnd
-readCall bytes = record { numbers = told bare (read bytes); table = tableOf (contentsOf (read bytes) .steps) (contentsOf (read bytes) .edges) }
+unfoldable pub readCallBy : Rule → List ℕ → ReadEnd
+readCallBy rule bytes =
+    let o = readBy rule bytes in
+    record { numbers = told bare o; table = tableOf (contentsOf o .steps) (contentsOf o .edges) }
+
+abbrev pub readCall : List ℕ → ReadEnd
+readCall bytes = readCallBy Shortest bytes
 
 -- what the code answers, in numbers
 abbrev pub readEnd : TableRead → ReadEnd

@@ -1,4 +1,4 @@
--- What the layers above may count on in a table that was accepted. It follows from `read`: see proofs/FairLaws.antt.
+-- What the layers above may count on in a table that was accepted, by either rule. It follows from `readBy`: see proofs/FairLaws.antt.
 use mathlib.Core.Path.{_≡_}
 use mathlib.Core.List.{List}
 use Prim.Native.Nat.{ℕ, _+_, _≤_, _<_}
@@ -8,7 +8,7 @@ use Rattle.graph.specs.Directed.{noTableEdge, ownEdge}
 use Rattle.table.specs.declared.types.Kind.{Kind}
 use Rattle.table.specs.declared.types.Kind.the-variants.{Check, Adjust, Wait}
 use Rattle.table.specs.declared.types.Step.{Step}
-use Rattle.table.specs.Limits.{maxSteps, maxEdges, maxTolerance, minMinutes, maxMinutes, minName, maxName, minGap, maxGap, maxWeight, maxTable}
+use Rattle.table.specs.Limits.{maxSteps, maxEdges, maxTolerance, minMinutes, maxMinutes, minName, maxName, minGap, maxGap, maxWeight}
 use Rattle.table.specs.Table.{Contents}
 use Rattle.table.specs.Calls.{noStep}
 
@@ -39,4 +39,3 @@ pub record Fair (s : List ℕ) (c : Contents) : Type 0 where
   pub few-edges : length (c .edges) ≤ maxEdges
   pub each-step : (i : ℕ) → i < length (c .steps) → FairStep s (getD (c .steps) i noStep)
   pub each-edge : (i : ℕ) → i < length (c .edges) → FairEdge (length (c .steps)) (ownEdge (getD (c .edges) i noTableEdge))
-  pub short : length s ≤ maxTable

@@ -1,5 +1,9 @@
 -- The limits of documents 01 and 02, each named once for the definitions; `src/limits.rt` names the same numbers for the code.
+use mathlib.Core.Bool.{cond}
 use Prim.Native.Nat.{ℕ, _+_, _*_}
+use lib.Dec.{ltb}
+use Rattle.table.specs.declared.rule.Rule.{Rule}
+use Rattle.table.specs.declared.rule.Rule.the-variants.{Old, Shortest}
 
 -- the editions that a table may have: the first has must edges only, the last (document 02) a firmness for each edge
 abbrev pub minEdition : ℕ
@@ -60,14 +64,24 @@ softness = 1
 abbrev pub numberBytes : ℕ
 numberBytes = 3
 
+-- bytes in a number up to `high`, at most, by a rule: the old one takes groups of zeros behind it, the other has seven bits a byte and none to
+-- spare
+abbrev pub width : Rule → ℕ → ℕ
+width Old high = numberBytes
+width Shortest high = cond (ltb high 0x80) 1 (cond (ltb high 0x4000) 2 numberBytes)
+
 -- bytes in a step, at most: its kind, what the kind adds, the length of its name, and the name
-abbrev pub stepBytes : ℕ
-stepBytes = 3 * numberBytes + maxName
+abbrev pub stepBytes : Rule → ℕ
+stepBytes rule = width rule maxKind + width rule maxTolerance + (width rule maxName + maxName)
 
--- bytes in an edge, at most: its ends, its gap, its weight and its firmness
-abbrev pub edgeBytes : ℕ
-edgeBytes = 5 * numberBytes
+-- bytes in an edge of a table of n steps, at most: its ends, its gap and its weight, and its firmness
+abbrev pub edgeBytes : Rule → ℕ → ℕ
+edgeBytes rule n = width rule n + width rule n + (width rule maxGap + width rule maxWeight) + width rule softness
 
--- no accepted table is longer: the edition, the count of steps and the steps, the count of edges and the edges
-abbrev pub maxTable : ℕ
-maxTable = numberBytes + numberBytes + maxSteps * stepBytes + numberBytes + maxEdges * edgeBytes
+-- no table that a rule accepts is longer: the edition, the count of steps and the steps, the count of edges and the edges
+abbrev pub maxTable : Rule → ℕ
+maxTable rule = width rule maxEdition + (width rule maxSteps + maxSteps * stepBytes rule) + (width rule maxEdges + maxEdges * edgeBytes rule maxSteps)
+
+-- what a program takes from standard input: more than any table has that a rule accepts
+abbrev pub maxInput : ℕ
+maxInput = 8192

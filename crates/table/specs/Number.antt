@@ -1,11 +1,13 @@
 -- Reading from left to right, and the numbers of a table. What is read is judged at once, and the first fault decides.
-use mathlib.Core.Bool.{Bool, true, false, _&&_, cond}
+use mathlib.Core.Bool.{Bool, true, false, not, _&&_, cond}
 use mathlib.Core.List.{List, [], _∷_}
 use Prim.Native.Nat.{ℕ, zero, suc, _+_, _-_, _*_}
-use lib.Dec.{leb, ltb}
+use lib.Dec.{leb, ltb, eqb}
 use lib.ListN.{length, getD}
 use Rattle.outcome.specs.declared.Refusal.{Refusal}
 use Rattle.outcome.specs.declared.Refusal.the-variants.{Cut, Overlong}
+use Rattle.table.specs.declared.rule.Rule.{Rule}
+use Rattle.table.specs.declared.rule.Rule.the-variants.{Old, Shortest}
 use Rattle.table.specs.declared.number.NumberRead.{NumberRead}
 use Rattle.table.specs.declared.number.NumberRead.the-variants.{Got, Fault}
 
@@ -27,17 +29,23 @@ judge false r next = fault r
 unfoldable pub byteAt : List ℕ → ℕ → Read ℕ
 byteAt s at = cond (ltb at (length s)) (got (getD s at 0) (at + 1)) (fault Cut)
 
--- A number: up to three bytes with seven bits of it each, lowest group first. A set high bit says that a byte follows, and the
--- third byte must not have one. Any number of leading zero groups that fits is taken.
-unfoldable pub numberAt : List ℕ → ℕ → Read ℕ
-numberAt s at =
+-- Whether a number of several bytes is taken, by the last of them. Document 01 takes every number of groups that fits; document 02 (its third
+-- request) no longer takes a last group of 0, which says nothing. Tables stored before that are read by the old rule, to be converted.
+abbrev pub takes : Rule → ℕ → Bool
+takes Old last = true
+takes Shortest last = not (eqb last 0)
+
+-- A number: up to three bytes with seven bits of it each, lowest group first. A set high bit says that a byte follows, and the third byte must
+-- not have one. Which last bytes are taken is a rule's; it is asked for here alone.
+unfoldable pub numberAt : Rule → List ℕ → ℕ → Read ℕ
+numberAt rule s at =
     andThen (byteAt s at) λ a p. cond (ltb a 0x80) (got a p)
-    (andThen (byteAt s p) λ b q. cond (ltb b 0x80) (got (a - 0x80 + b * 0x80) q)
-    (andThen (byteAt s q) λ c e. judge (ltb c 0x80) Overlong (got (a - 0x80 + (b - 0x80) * 0x80 + c * 0x4000) e)))
+    (andThen (byteAt s p) λ b q. cond (ltb b 0x80) (judge (takes rule b) Overlong (got (a - 0x80 + b * 0x80) q))
+    (andThen (byteAt s q) λ c e. judge (ltb c 0x80 && takes rule c) Overlong (got (a - 0x80 + (b - 0x80) * 0x80 + c * 0x4000) e)))
 
 -- a number from low to high, and the refusal of any other
-unfoldable pub numberIn : ℕ → ℕ → Refusal → List ℕ → ℕ → Read ℕ
-numberIn low high r s at = andThen (numberAt s at) λ v p. judge (leb low v && leb v high) r (got v p)
+unfoldable pub numberIn : Rule → ℕ → ℕ → Refusal → List ℕ → ℕ → Read ℕ
+numberIn rule low high r s at = andThen (numberAt rule s at) λ v p. judge (leb low v && leb v high) r (got v p)
 
 -- k items, one behind the other
 unfoldable pub many : {A : Type 0} → (ℕ → Read A) → ℕ → ℕ → Read (List A)

@@ -7,6 +7,7 @@ use crate::limits::SOFT;
 use crate::number::NumberRead;
 use crate::number::number_at;
 use crate::number::number_in;
+use crate::rule::Rule;
 use graph::Edge;
 use graph::TableEdge;
 use outcome::Refusal;
@@ -28,10 +29,10 @@ pub enum TableEdgeRead {
 }
 
 // The number of a step, of n steps, that is not `but`.
-fn end_at(s: &[u8], n: usize, but: usize, at: usize) -> NumberRead
-    ensures { λ r. ⌜ numberRead r ≡ endAt (now (s .entry)) n but at ⌝ }
+fn end_at(rule: Rule, s: &[u8], n: usize, but: usize, at: usize) -> NumberRead
+    ensures { λ r. ⌜ numberRead r ≡ endAt rule (now (s .entry)) n but at ⌝ }
 {
-    match number_at(s, at) {
+    match number_at(rule, s, at) {
         NumberRead::Fault(f) => NumberRead::Fault(f),
         NumberRead::Got(v, p) => {
             if n <= v {
@@ -46,12 +47,12 @@ fn end_at(s: &[u8], n: usize, but: usize, at: usize) -> NumberRead
 }
 
 // The gap and the weight of an edge whose ends are known.
-fn edge_between(s: &[u8], from: usize, to: usize, at: usize) -> EdgeRead
-    ensures { λ r. ⌜ edgeRead r ≡ edgeBetween (now (s .entry)) from to at ⌝ }
+fn edge_between(rule: Rule, s: &[u8], from: usize, to: usize, at: usize) -> EdgeRead
+    ensures { λ r. ⌜ edgeRead r ≡ edgeBetween rule (now (s .entry)) from to at ⌝ }
 {
-    match number_in(s, at, MIN_GAP, MAX_GAP, Refusal::OutOfRange) {
+    match number_in(rule, s, at, MIN_GAP, MAX_GAP, Refusal::OutOfRange) {
         NumberRead::Fault(f) => EdgeRead::Fault(f),
-        NumberRead::Got(gap, p) => match number_in(s, p, 0, MAX_WEIGHT, Refusal::OutOfRange) {
+        NumberRead::Got(gap, p) => match number_in(rule, s, p, 0, MAX_WEIGHT, Refusal::OutOfRange) {
             NumberRead::Fault(f) => EdgeRead::Fault(f),
             NumberRead::Got(weight, e) => EdgeRead::Got(
                 Edge {
@@ -67,36 +68,36 @@ fn edge_between(s: &[u8], from: usize, to: usize, at: usize) -> EdgeRead
 }
 
 // An edge of a table of n steps, without its firmness.
-fn edge_at(s: &[u8], n: usize, at: usize) -> EdgeRead
-    ensures { λ r. ⌜ edgeRead r ≡ edgeAt (now (s .entry)) n at ⌝ }
+fn edge_at(rule: Rule, s: &[u8], n: usize, at: usize) -> EdgeRead
+    ensures { λ r. ⌜ edgeRead r ≡ edgeAt rule (now (s .entry)) n at ⌝ }
 {
-    match end_at(s, n, n, at) {
+    match end_at(rule, s, n, n, at) {
         NumberRead::Fault(f) => EdgeRead::Fault(f),
-        NumberRead::Got(from, p) => match end_at(s, n, from, p) {
+        NumberRead::Got(from, p) => match end_at(rule, s, n, from, p) {
             NumberRead::Fault(f) => EdgeRead::Fault(f),
-            NumberRead::Got(to, q) => edge_between(s, from, to, q),
+            NumberRead::Got(to, q) => edge_between(rule, s, from, to, q),
         },
     }
 }
 
 // The firmness of an edge, which the first edition has not: its edges are must edges.
-fn firmness_at(s: &[u8], edition: usize, at: usize) -> NumberRead
-    ensures { λ r. ⌜ numberRead r ≡ firmnessAt (now (s .entry)) edition at ⌝ }
+fn firmness_at(rule: Rule, s: &[u8], edition: usize, at: usize) -> NumberRead
+    ensures { λ r. ⌜ numberRead r ≡ firmnessAt rule (now (s .entry)) edition at ⌝ }
 {
     if edition == MIN_EDITION {
         return NumberRead::Got(0, at);
     }
-    number_in(s, at, 0, SOFT, Refusal::BadFirmness)
+    number_in(rule, s, at, 0, SOFT, Refusal::BadFirmness)
 }
 
 // An edge of a table of n steps, with its firmness. Each of its numbers was judged, so that it fits a byte.
-pub fn table_edge_at(s: &[u8], edition: usize, n: usize, at: usize) -> TableEdgeRead
+pub fn table_edge_at(rule: Rule, s: &[u8], edition: usize, n: usize, at: usize) -> TableEdgeRead
     requires { ⌜ n ≤ maxSteps ⌝ }
-    ensures { λ r. ⌜ tableEdgeRead r ≡ tableEdgeAt (now (s .entry)) edition n at ⌝ }
+    ensures { λ r. ⌜ tableEdgeRead r ≡ tableEdgeAt rule (now (s .entry)) edition n at ⌝ }
 {
-    match edge_at(s, n, at) {
+    match edge_at(rule, s, n, at) {
         EdgeRead::Fault(f) => TableEdgeRead::Fault(f),
-        EdgeRead::Got(edge, p) => match firmness_at(s, edition, p) {
+        EdgeRead::Got(edge, p) => match firmness_at(rule, s, edition, p) {
             NumberRead::Fault(f) => TableEdgeRead::Fault(f),
             NumberRead::Got(firmness, q) => TableEdgeRead::Got(
                 TableEdge {

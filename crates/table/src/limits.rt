@@ -33,3 +33,6 @@ pub const MAX_WEIGHT: usize = 255;
 
 // The firmness of an edge: 0 for must, 1 for soft.
 pub const SOFT: usize = 1;
+
+// What a program takes from standard input. No accepted table is that long.
+pub const MAX_INPUT: usize = 8192;

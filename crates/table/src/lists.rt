@@ -5,6 +5,7 @@ use crate::limits::MAX_EDGES;
 use crate::limits::MAX_STEPS;
 use crate::number::NumberRead;
 use crate::number::number_in;
+use crate::rule::Rule;
 use crate::step::StepRead;
 use crate::step::step_at;
 use crate::types::Kind;
@@ -88,14 +89,14 @@ fn no_edges(f: Refusal) -> Edges
 }
 
 // n steps, one behind the other.
-fn many_steps(s: &[u8], at: usize, n: usize) -> Steps
+fn many_steps(rule: Rule, s: &[u8], at: usize, n: usize) -> Steps
     requires { ⌜ n ≤ maxSteps ⌝ }
-    ensures { λ r. ⌜ ListRead maxSteps noStep (many (stepAt (now (s .entry))) n at) (r .verdict) (r .n) (r .list) (r .next) ⌝ }
+    ensures { λ r. ⌜ ListRead maxSteps noStep (many (stepAt rule (now (s .entry))) n at) (r .verdict) (r .n) (r .list) (r .next) ⌝ }
 {
     let mut list = blank_steps();
     let mut p = at;
     for i in 0..n {
-        match step_at(s, p) {
+        match step_at(rule, s, p) {
             StepRead::Fault(f) => return no_steps(f),
             StepRead::Got(step, q) => {
                 list[i] = step;
@@ -112,14 +113,14 @@ fn many_steps(s: &[u8], at: usize, n: usize) -> Steps
 }
 
 // m edges of a table of n steps, one behind the other.
-fn many_edges(s: &[u8], edition: usize, n: usize, at: usize, m: usize) -> Edges
+fn many_edges(rule: Rule, s: &[u8], edition: usize, n: usize, at: usize, m: usize) -> Edges
     requires { ⌜ (n ≤ maxSteps) × (m ≤ maxEdges) ⌝ }
-    ensures { λ r. ⌜ ListRead maxEdges noTableEdge (many (tableEdgeAt (now (s .entry)) edition n) m at) (r .verdict) (r .m) (r .list) (r .next) ⌝ }
+    ensures { λ r. ⌜ ListRead maxEdges noTableEdge (many (tableEdgeAt rule (now (s .entry)) edition n) m at) (r .verdict) (r .m) (r .list) (r .next) ⌝ }
 {
     let mut list = blank_edges();
     let mut p = at;
     for i in 0..m {
-        match table_edge_at(s, edition, n, p) {
+        match table_edge_at(rule, s, edition, n, p) {
             TableEdgeRead::Fault(f) => return no_edges(f),
             TableEdgeRead::Got(edge, q) => {
                 list[i] = edge;
@@ -136,22 +137,22 @@ fn many_edges(s: &[u8], edition: usize, n: usize, at: usize, m: usize) -> Edges
 }
 
 // The count of steps, then the steps.
-pub fn steps_at(s: &[u8], at: usize) -> Steps
-    ensures { λ r. ⌜ ListRead maxSteps noStep (stepsAt (now (s .entry)) at) (r .verdict) (r .n) (r .list) (r .next) ⌝ }
+pub fn steps_at(rule: Rule, s: &[u8], at: usize) -> Steps
+    ensures { λ r. ⌜ ListRead maxSteps noStep (stepsAt rule (now (s .entry)) at) (r .verdict) (r .n) (r .list) (r .next) ⌝ }
 {
-    match number_in(s, at, 0, MAX_STEPS, Refusal::ManySteps) {
+    match number_in(rule, s, at, 0, MAX_STEPS, Refusal::ManySteps) {
         NumberRead::Fault(f) => no_steps(f),
-        NumberRead::Got(n, p) => many_steps(s, p, n),
+        NumberRead::Got(n, p) => many_steps(rule, s, p, n),
     }
 }
 
 // The count of edges, then the edges, of a table of n steps.
-pub fn edges_at(s: &[u8], edition: usize, n: usize, at: usize) -> Edges
+pub fn edges_at(rule: Rule, s: &[u8], edition: usize, n: usize, at: usize) -> Edges
     requires { ⌜ n ≤ maxSteps ⌝ }
-    ensures { λ r. ⌜ ListRead maxEdges noTableEdge (edgesAt (now (s .entry)) edition n at) (r .verdict) (r .m) (r .list) (r .next) ⌝ }
+    ensures { λ r. ⌜ ListRead maxEdges noTableEdge (edgesAt rule (now (s .entry)) edition n at) (r .verdict) (r .m) (r .list) (r .next) ⌝ }
 {
-    match number_in(s, at, 0, MAX_EDGES, Refusal::ManyEdges) {
+    match number_in(rule, s, at, 0, MAX_EDGES, Refusal::ManyEdges) {
         NumberRead::Fault(f) => no_edges(f),
-        NumberRead::Got(m, p) => many_edges(s, edition, n, p, m),
+        NumberRead::Got(m, p) => many_edges(rule, s, edition, n, p, m),
     }
 }

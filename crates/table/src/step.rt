@@ -9,6 +9,7 @@ use crate::limits::MIN_NAME;
 use crate::limits::MIN_NAME_BYTE;
 use crate::number::NumberRead;
 use crate::number::number_in;
+use crate::rule::Rule;
 use crate::types::Kind;
 use crate::types::Step;
 use outcome::Refusal;
@@ -28,39 +29,39 @@ pub enum StepRead {
 }
 
 // An adjustment's tolerance.
-fn adjust_at(s: &[u8], at: usize) -> KindRead
-    ensures { λ r. ⌜ kindRead r ≡ adjustAt (now (s .entry)) at ⌝ }
+fn adjust_at(rule: Rule, s: &[u8], at: usize) -> KindRead
+    ensures { λ r. ⌜ kindRead r ≡ adjustAt rule (now (s .entry)) at ⌝ }
 {
-    match number_in(s, at, 0, MAX_TOLERANCE, Refusal::OutOfRange) {
+    match number_in(rule, s, at, 0, MAX_TOLERANCE, Refusal::OutOfRange) {
         NumberRead::Fault(f) => KindRead::Fault(f),
         NumberRead::Got(t, p) => KindRead::Got(Kind::Adjust(t), p),
     }
 }
 
 // A wait's minutes.
-fn wait_at(s: &[u8], at: usize) -> KindRead
-    ensures { λ r. ⌜ kindRead r ≡ waitAt (now (s .entry)) at ⌝ }
+fn wait_at(rule: Rule, s: &[u8], at: usize) -> KindRead
+    ensures { λ r. ⌜ kindRead r ≡ waitAt rule (now (s .entry)) at ⌝ }
 {
-    match number_in(s, at, MIN_MINUTES, MAX_MINUTES, Refusal::OutOfRange) {
+    match number_in(rule, s, at, MIN_MINUTES, MAX_MINUTES, Refusal::OutOfRange) {
         NumberRead::Fault(f) => KindRead::Fault(f),
         NumberRead::Got(m, p) => KindRead::Got(Kind::Wait(m), p),
     }
 }
 
 // A kind with what it adds.
-fn kind_at(s: &[u8], at: usize) -> KindRead
-    ensures { λ r. ⌜ kindRead r ≡ kindAt (now (s .entry)) at ⌝ }
+fn kind_at(rule: Rule, s: &[u8], at: usize) -> KindRead
+    ensures { λ r. ⌜ kindRead r ≡ kindAt rule (now (s .entry)) at ⌝ }
 {
-    match number_in(s, at, 0, MAX_KIND, Refusal::BadKind) {
+    match number_in(rule, s, at, 0, MAX_KIND, Refusal::BadKind) {
         NumberRead::Fault(f) => KindRead::Fault(f),
         NumberRead::Got(k, p) => {
             if k == 0 {
                 return KindRead::Got(Kind::Check, p);
             }
             if k == 1 {
-                return adjust_at(s, p);
+                return adjust_at(rule, s, p);
             }
-            wait_at(s, p)
+            wait_at(rule, s, p)
         }
     }
 }
@@ -89,10 +90,10 @@ fn name_at(s: &[u8], at: usize, len: usize) -> NumberRead
 }
 
 // The name of a step whose kind is known.
-fn named_at(s: &[u8], kind: Kind, at: usize) -> StepRead
-    ensures { λ r. ⌜ stepRead r ≡ namedAt (now (s .entry)) kind at ⌝ }
+fn named_at(rule: Rule, s: &[u8], kind: Kind, at: usize) -> StepRead
+    ensures { λ r. ⌜ stepRead r ≡ namedAt rule (now (s .entry)) kind at ⌝ }
 {
-    match number_in(s, at, MIN_NAME, MAX_NAME, Refusal::OutOfRange) {
+    match number_in(rule, s, at, MIN_NAME, MAX_NAME, Refusal::OutOfRange) {
         NumberRead::Fault(f) => StepRead::Fault(f),
         NumberRead::Got(l, p) => match name_at(s, p, l) {
             NumberRead::Fault(f) => StepRead::Fault(f),
@@ -108,11 +109,11 @@ fn named_at(s: &[u8], kind: Kind, at: usize) -> StepRead
     }
 }
 
-pub fn step_at(s: &[u8], at: usize) -> StepRead
-    ensures { λ r. ⌜ stepRead r ≡ stepAt (now (s .entry)) at ⌝ }
+pub fn step_at(rule: Rule, s: &[u8], at: usize) -> StepRead
+    ensures { λ r. ⌜ stepRead r ≡ stepAt rule (now (s .entry)) at ⌝ }
 {
-    match kind_at(s, at) {
+    match kind_at(rule, s, at) {
         KindRead::Fault(f) => StepRead::Fault(f),
-        KindRead::Got(kind, p) => named_at(s, kind, p),
+        KindRead::Got(kind, p) => named_at(rule, s, kind, p),
     }
 }

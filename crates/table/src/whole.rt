@@ -3,6 +3,7 @@ use crate::lists::blank_edges;
 use crate::lists::blank_steps;
 use crate::lists::edges_at;
 use crate::lists::steps_at;
+use crate::rule::Rule;
 use crate::types::Table;
 use crate::types::TableRead;
 use outcome::Refusal;
@@ -28,15 +29,15 @@ pub fn refuse_table(f: Refusal) -> TableRead
 }
 
 // What stands behind the edition.
-pub fn read_lists(bytes: &[u8], edition: usize, at: usize) -> TableRead
-    ensures { λ r. ⌜ r ≡ tableRead (outcome (listsAt (now (bytes .entry)) edition at)) ⌝ }
+pub fn read_lists(rule: Rule, bytes: &[u8], edition: usize, at: usize) -> TableRead
+    ensures { λ r. ⌜ r ≡ tableRead (outcome (listsAt rule (now (bytes .entry)) edition at)) ⌝ }
 {
-    let steps = steps_at(bytes, at);
+    let steps = steps_at(rule, bytes, at);
     let verdict = steps.verdict;
     match verdict {
         Verdict::Refused(f) => refuse_table(f),
         Verdict::Accepted => {
-            let edges = edges_at(bytes, edition, steps.n, steps.next);
+            let edges = edges_at(rule, bytes, edition, steps.n, steps.next);
             let judged = edges.verdict;
             match judged {
                 Verdict::Refused(f) => refuse_table(f),

@@ -14,14 +14,15 @@ use Rattle.outcome.specs.declared.Refusal.{Refusal}
 use Rattle.outcome.specs.declared.Refusal.the-variants.{ShortBuffer}
 use Rattle.outcome.specs.Refusal.{Outcome, done, refused, thenDo, demand, stepOf}
 use Rattle.outcome.proofs.ToldLaws.{told-refused, told-done}
+use Rattle.table.specs.declared.rule.Rule.{Rule}
 use Rattle.table.specs.declared.types.TableRead.{TableRead}
 use Rattle.table.specs.Limits.{maxSteps, maxEdges}
-use Rattle.table.specs.Table.{Contents, read}
+use Rattle.table.specs.Table.{Contents, readBy}
 use Rattle.table.specs.Calls.{noStep, tableOf}
 use Rattle.table.specs.Fair.{FairStep, FairEdge, Fair}
-use Rattle.table.proofs.FairLaws.{read-fair}
+use Rattle.table.proofs.FairLaws.{read-fair-by}
 use Rattle.table.proofs.AnswerLaws.{Told}
-use Rattle.table.proofs.RangeLaws.{read-alone}
+use Rattle.table.proofs.RangeLaws.{read-alone-by}
 use Rattle.buffers.specs.Padded.{padded}
 use Rattle.buffers.specs.Written.{Stored}
 use Rattle.buffers.proofs.PaddedLaws.{padded-long, padded-front}
@@ -31,7 +32,7 @@ use Rattle.writing.specs.declared.WriteAnswer.the-variants.{Written, Ref
 use Rattle.encoding.specs.Limits.{maxShortest}
 use Rattle.encoding.specs.Said.{said}
 use Rattle.encoding.specs.Shortest.{shortest}
-use Rattle.writing.specs.Calls.{shortened, tableOut, countOf, writeCall, writeNumbers}
+use Rattle.writing.specs.Calls.{shortenedBy, fitted, countOf, writeCallBy, writeNumbers}
 use Rattle.writing.specs.Writable.{WritableTable, tableSaid}
 use Rattle.writing.proofs.PageLaws.{table-bytes}
 
@@ -53,9 +54,9 @@ more-steps n k e h f =
       weight-low = f .weight-low;
     }
 
-module _ (bytes : List ℕ) (c : Contents) (e : read bytes ≡ done c) where
+module _ (rule : Rule) (bytes : List ℕ) (c : Contents) (e : readBy rule bytes ≡ done c) where
   fair : Fair bytes c
-  fair = read-fair bytes e
+  fair = read-fair-by rule bytes e
 
   pub writable-of : WritableTable bytes (tableOf (c .steps) (c .edges))
   writable-of =
@@ -82,16 +83,16 @@ module _ (bytes : List ℕ) (c : Contents) (e : read bytes ≡ done c) where
   pub shortest-bytes : length (shortest (said bytes c)) ≤ maxShortest
   shortest-bytes = subst (λ w. length (shortest w) ≤ maxShortest) said-of (table-bytes bytes (tableOf (c .steps) (c .edges)) writable-of)
 
-module _ (bytes : List ℕ) (t : TableRead) (h : Told t (read bytes)) where
+module _ (rule : Rule) (bytes : List ℕ) (t : TableRead) (h : Told t (readBy rule bytes)) where
   table-is : t .table ≡ tableOf (h .contents .steps) (h .contents .edges)
   table-is = ap (λ (x : TableRead). x .table) (h .whole)
 
   -- the table can be written
   pub writable : WritableTable bytes (t .table)
-  writable = subst (WritableTable bytes) (sym table-is) (writable-of bytes (h .contents) (h .outcome))
+  writable = subst (WritableTable bytes) (sym table-is) (writable-of rule bytes (h .contents) (h .outcome))
 
   says : tableSaid bytes (t .table) ≡ said bytes (h .contents)
-  says = ap (tableSaid bytes) table-is ∙ said-of bytes (h .contents) (h .outcome)
+  says = ap (tableSaid bytes) table-is ∙ said-of rule bytes (h .contents) (h .outcome)
 
   -- ---- the buffer
 
@@ -103,7 +104,7 @@ module _ (bytes : List ℕ) (t : TableRead) (h : Told t (read bytes)) where
     len-is = omega (arith, on-page .counts)
 
     fits : length (shortest (said bytes (h .contents))) ≤ length page
-    fits = omega (arith, shortest-bytes bytes (h .contents) (h .outcome))
+    fits = omega (arith, shortest-bytes rule bytes (h .contents) (h .outcome))
 
     pub page-inside : len ≤ length page₁
     page-inside = omega (arith, len-is, fits, stored-long on-page)
@@ -114,71 +115,78 @@ module _ (bytes : List ℕ) (t : TableRead) (h : Told t (read bytes)) where
     pub page-room : len ≤ length old → 0 + length (take len page₁) ≤ length old
     page-room l = omega (arith, ap length page-front, len-is)
 
-    pub call-short : length old < len → (writeNumbers (Refused ShortBuffer) ≡ writeCall bytes old .numbers) × (old ≡ writeCall bytes old .out)
-    unfolding writeCall tableOut shortened
+    pub call-short : length old < len → (writeNumbers (Refused ShortBuffer) ≡ writeCallBy rule bytes old .numbers) × (old ≡ writeCallBy rule bytes old .out)
+    unfolding writeCallBy fitted shortenedBy
     call-short l =
         let b = lt-leb (length (shortest (said bytes (h .contents)))) (length old) (omega (arith, len-is)) in
         (rw (h .outcome, b), rw (h .outcome, b))
 
     pub call-written : (new : List ℕ) (p : ℕ) → len ≤ length old → Stored old 0 (take len page₁) new p
-        → (writeNumbers (Written len) ≡ writeCall bytes old .numbers) × (new ≡ writeCall bytes old .out)
-    unfolding writeCall tableOut shortened
+        → (writeNumbers (Written len) ≡ writeCallBy rule bytes old .numbers) × (new ≡ writeCallBy rule bytes old .out)
+    unfolding writeCallBy fitted shortenedBy
     call-written new p l u =
         let b = le-leb (length (shortest (said bytes (h .contents)))) (length old) (omega (arith, len-is)) in
         let v : Stored old 0 (shortest (said bytes (h .contents))) new p = subst (λ w. Stored old 0 w new p) page-front u in
         (rw (h .outcome, b, len-is), rw (h .outcome, b) (v .holds ∙ written-is old (shortest (said bytes (h .contents))) (omega (arith, len-is))))
 
-pub call-refused : (bytes old : List ℕ) {f : Refusal} → read bytes ≡ refused f
-    → (writeNumbers (Refused f) ≡ writeCall bytes old .numbers) × (old ≡ writeCall bytes old .out)
-unfolding writeCall tableOut shortened
-call-refused bytes old e = (rw e, rw e)
+pub call-refused : (rule : Rule) (bytes old : List ℕ) {f : Refusal} → readBy rule bytes ≡ refused f
+    → (writeNumbers (Refused f) ≡ writeCallBy rule bytes old .numbers) × (old ≡ writeCallBy rule bytes old .out)
+unfolding writeCallBy fitted shortenedBy
+call-refused rule bytes old e = (rw e, rw e)
 
 -- ---- from the answer back to the outcome
 
+-- what was handed out fits the buffer
+pub fitted-is : (what : Outcome (List ℕ)) (old : List ℕ) {text : List ℕ} → fitted what old ≡ done text → what ≡ done text
+unfolding fitted
+fitted-is (done t) old {text} e = go (leb (length t) (length old)) e
+  where
+    go : (b : Bool) → demand b ShortBuffer (done t) ≡ done text → done t ≡ done text
+    go true e = e
+    go false e = let z : _≡_ {A = ℕ} 0 1 = cc in absurd (omega arith)
+fitted-is (refused r) old e = e
+
 -- a refusal is the reader's or 13, and no step comes with either
-out-alone : (bytes old : List ℕ) {f : Refusal} → tableOut bytes old ≡ refused f → stepOf f ≡ 0
-unfolding tableOut shortened
-out-alone bytes old {f} e = go (read bytes) refl e
+out-alone : (rule : Rule) (bytes old : List ℕ) {f : Refusal} → fitted (shortenedBy rule bytes) old ≡ refused f → stepOf f ≡ 0
+unfolding fitted shortenedBy
+out-alone rule bytes old {f} e = go (readBy rule bytes) refl e
   where
     test : (b : Bool) (table : List ℕ) → demand b ShortBuffer (done table) ≡ refused f → stepOf f ≡ 0
     test true table e = let z : _≡_ {A = ℕ} 0 1 = cc in absurd (omega arith)
     test false table e = let k : ShortBuffer ≡ f = cc in subst (λ x. stepOf x ≡ 0) k refl
 
-    go : (o : Outcome Contents) → read bytes ≡ o
+    go : (o : Outcome Contents) → readBy rule bytes ≡ o
         → thenDo (thenDo o λ c. done (shortest (said bytes c))) (λ table. demand (leb (length table) (length old)) ShortBuffer (done table)) ≡ refused f → stepOf f ≡ 0
     go (done c) r e = test (leb (length (shortest (said bytes c))) (length old)) _ e
-    go (refused g) r e = let k : g ≡ f = cc in subst (λ x. stepOf x ≡ 0) k (read-alone bytes r)
+    go (refused g) r e = let k : g ≡ f = cc in subst (λ x. stepOf x ≡ 0) k (read-alone-by rule bytes r)
 
 -- a table that is handed out is the shortest one of the table that was read
-pub record HandedOut (bytes table : List ℕ) : Type 0 where
+pub record HandedOut (rule : Rule) (bytes table : List ℕ) : Type 0 where
   pub contents : Contents
-  pub reads : read bytes ≡ done contents
+  pub reads : readBy rule bytes ≡ done contents
   pub is : shortest (said bytes contents) ≡ table
 
-pub out-is : (bytes old : List ℕ) {table : List ℕ} → tableOut bytes old ≡ done table → HandedOut bytes table
-unfolding tableOut shortened
-out-is bytes old {table} e = go (read bytes) refl e
+shortened-is : (rule : Rule) (bytes : List ℕ) {table : List ℕ} → shortenedBy rule bytes ≡ done table → HandedOut rule bytes table
+unfolding shortenedBy
+shortened-is rule bytes {table} e = go (readBy rule bytes) refl e
   where
-    test : (b : Bool) (t : List ℕ) → demand b ShortBuffer (done t) ≡ done table → t ≡ table
-    test true t e = cc
-    test false t e = let z : _≡_ {A = ℕ} 0 1 = cc in absurd (omega arith)
-
-    go : (o : Outcome Contents) → read bytes ≡ o
-        → thenDo (thenDo o λ c. done (shortest (said bytes c))) (λ table. demand (leb (length table) (length old)) ShortBuffer (done table)) ≡ done table
-        → HandedOut bytes table
-    go (done c) r e = record { contents = c; reads = r; is = test (leb (length (shortest (said bytes c))) (length old)) _ e }
+    go : (o : Outcome Contents) → readBy rule bytes ≡ o → thenDo o (λ c. done (shortest (said bytes c))) ≡ done table → HandedOut rule bytes table
+    go (done c) r e = record { contents = c; reads = r; is = cc }
     go (refused g) r e = let z : _≡_ {A = ℕ} 0 1 = cc in absurd (omega arith)
 
-module _ (bytes old : List ℕ) {a : WriteAnswer} (e : writeNumbers a ≡ writeCall bytes old .numbers) where
+pub out-is : (rule : Rule) (bytes old : List ℕ) {table : List ℕ} → fitted (shortenedBy rule bytes) old ≡ done table → HandedOut rule bytes table
+out-is rule bytes old e = shortened-is rule bytes (fitted-is (shortenedBy rule bytes) old e)
+
+module _ (rule : Rule) (bytes old : List ℕ) {a : WriteAnswer} (e : writeNumbers a ≡ writeCallBy rule bytes old .numbers) where
   pub write-alone : {f : Refusal} → a ≡ Refused f → stepOf f ≡ 0
-  unfolding writeCall
-  write-alone {f} v = out-alone bytes old {f = f} (told-refused countOf (tableOut bytes old) (sym (ap writeNumbers v) ∙ e))
+  unfolding writeCallBy
+  write-alone {f} v = out-alone rule bytes old {f = f} (told-refused countOf (fitted (shortenedBy rule bytes) old) (sym (ap writeNumbers v) ∙ e))
 
   pub write-low : {len : ℕ} → a ≡ Written len → len ≤ maxShortest
-  unfolding writeCall
+  unfolding writeCallBy
   write-low {len} v =
-      let h = told-done countOf (tableOut bytes old) (sym (ap writeNumbers v) ∙ e) in
+      let h = told-done countOf (fitted (shortenedBy rule bytes) old) (sym (ap writeNumbers v) ∙ e) in
       let w = h .says in
       let k : len ≡ length (h .value) = cc in
-      let o = out-is bytes old (h .outcome) in
-      omega (arith, shortest-bytes bytes (o .contents) (o .reads), ap length (o .is))
+      let o = out-is rule bytes old (h .outcome) in
+      omega (arith, shortest-bytes rule bytes (o .contents) (o .reads), ap length (o .is))

@@ -11,6 +11,8 @@ use Rattle.graph.specs.declared.Edge.{Edge}
 use Rattle.graph.specs.declared.TableEdge.{TableEdge}
 use Rattle.graph.specs.Directed.{ownEdge}
 use Rattle.outcome.specs.declared.Refusal.the-variants.{OutOfRange, BadEnd, BadFirmness}
+use Rattle.table.specs.declared.rule.Rule.{Rule}
+use Rattle.table.specs.declared.rule.Rule.the-variants.{Shortest}
 use Rattle.table.specs.Limits.{minEdition, maxEdition, maxSteps, minGap, maxGap, maxWeight, softness}
 use Rattle.table.specs.Number.{got, numberAt, numberIn}
 use Rattle.table.specs.Table.{endAt, edgeBetween, edgeAt, firmnessAt, tableEdge, tableEdgeAt}
@@ -39,13 +41,13 @@ four-long : (a b c d : List ℕ) → length (a ++ b ++ (c ++ d)) ≡ length a + 
 four-long a b c d = omega (arith, length-append (a ++ b) (c ++ d), length-append a b, length-append c d)
 
 module _ (s : List ℕ) (n : ℕ) (few : n ≤ maxSteps) where
-  end-back : (but at v : ℕ) → v < n → (v ≡ but → ⊥) → Stands s at (shortNumber v) → endAt s n but at ≡ got v (at + length (shortNumber v))
+  end-back : (but at v : ℕ) → v < n → (v ≡ but → ⊥) → Stands s at (shortNumber v) → endAt Shortest s n but at ≡ got v (at + length (shortNumber v))
   unfolding endAt
   end-back but at v l d h = rw (number-back s at v (omega arith) h, lt-ltb v n l, ne-eqb v but d)
 
   -- four numbers stand one behind the other, and each is within its limits
   own-back : (at : ℕ) (e : TableEdge) → FairEdge n (ownEdge e) → Stands s at (shortEnds e ++ shortSizes e)
-      → edgeAt s n at ≡ got (ownEdge e) (at + length (shortEnds e ++ shortSizes e))
+      → edgeAt Shortest s n at ≡ got (ownEdge e) (at + length (shortEnds e ++ shortSizes e))
   unfolding edgeAt edgeBetween
   own-back at e g h =
       let a = shortNumber (e .from) in
@@ -62,31 +64,32 @@ module _ (s : List ℕ) (n : ℕ) (few : n ≤ maxSteps) where
       let end : at + length a + length b + length c + length d ≡ at + length (a ++ b ++ (c ++ d)) = omega (arith, four-long a b c d) in
       rw (from, to, gap, weight, end)
 
-  end-short : (but at : ℕ) {v p : ℕ} → endAt s n but at ≡ got v p → at + length (shortNumber v) ≤ p
+module _ (rule : Rule) (s : List ℕ) (n : ℕ) (few : n ≤ maxSteps) where
+  end-short : (but at : ℕ) {v p : ℕ} → endAt rule s n but at ≡ got v p → at + length (shortNumber v) ≤ p
   unfolding endAt
   end-short but at {v} {p} e =
-      let low = end-fair s n but at e .0 in
-      let c = came (numberAt s at) _ e in
+      let low = end-fair rule s n but at e .0 in
+      let c = came (numberAt rule s at) _ e in
       let t = passed (ltb (c .value) n && not (eqb (c .value) but)) BadEnd _ (c .next) in
-      number-short s at (omega arith) (c .first ∙ t .1)
+      number-short rule s at (omega arith) (c .first ∙ t .1)
 
-  between-short : (from to at : ℕ) {e : Edge} {p : ℕ} → edgeBetween s from to at ≡ got e p
+  between-short : (from to at : ℕ) {e : Edge} {p : ℕ} → edgeBetween rule s from to at ≡ got e p
       → (e .from ≡ from) × (e .to ≡ to) × (at + length (shortNumber (e .gap)) + length (shortNumber (e .weight)) ≤ p)
   unfolding edgeBetween
   between-short from to at {e} {p} r =
-      let g = came (numberIn minGap maxGap OutOfRange s at) _ r in
-      let w = came (numberIn 0 maxWeight OutOfRange s (g .place)) _ (g .next) in
-      let gap = limits-short minGap maxGap OutOfRange s at (omega arith) (g .first) in
-      let weight = limits-short 0 maxWeight OutOfRange s (g .place) (omega arith) (w .first) in
+      let g = came (numberIn rule minGap maxGap OutOfRange s at) _ r in
+      let w = came (numberIn rule 0 maxWeight OutOfRange s (g .place)) _ (g .next) in
+      let gap = limits-short rule minGap maxGap OutOfRange s at (omega arith) (g .first) in
+      let weight = limits-short rule 0 maxWeight OutOfRange s (g .place) (omega arith) (w .first) in
       subst (λ (e : Edge). (e .from ≡ from) × (e .to ≡ to) × (at + length (shortNumber (e .gap)) + length (shortNumber (e .weight)) ≤ p)) (got-value (w .next))
       (refl, refl, omega (arith, gap, weight, got-place (w .next)))
 
-  own-short : (at : ℕ) (e : Edge) (p : ℕ) → edgeAt s n at ≡ got e p
+  own-short : (at : ℕ) (e : Edge) (p : ℕ) → edgeAt rule s n at ≡ got e p
       → at + length (shortNumber (e .from)) + length (shortNumber (e .to)) + length (shortNumber (e .gap)) + length (shortNumber (e .weight)) ≤ p
   unfolding edgeAt
   own-short at e p r =
-      let a = came (endAt s n n at) _ r in
-      let b = came (endAt s n (a .value) (a .place)) _ (a .next) in
+      let a = came (endAt rule s n n at) _ r in
+      let b = came (endAt rule s n (a .value) (a .place)) _ (a .next) in
       let from = end-short n at (a .first) in
       let to = end-short (a .value) (a .place) (b .first) in
       let sizes = between-short (a .value) (b .value) (b .place) (b .next) in
@@ -103,28 +106,29 @@ soft-told false = refl
 
 module _ (s : List ℕ) (edition at : ℕ) where
   firmness-back : (soft : Bool) → (eqb edition minEdition ≡ true → soft ≡ false) → Stands s at (shortFirmness edition soft)
-      → firmnessAt s edition at ≡ got (cond soft softness 0) (at + length (shortFirmness edition soft))
+      → firmnessAt Shortest s edition at ≡ got (cond soft softness 0) (at + length (shortFirmness edition soft))
   unfolding firmnessAt shortFirmness
   firmness-back soft firm h = go (eqb edition minEdition) soft firm h
     where
       go : (t soft : Bool) → (t ≡ true → soft ≡ false) → Stands s at (cond t [] (shortNumber (cond soft softness 0)))
-          → cond t (got 0 at) (numberIn 0 softness BadFirmness s at) ≡ got (cond soft softness 0) (at + length (cond t [] (shortNumber (cond soft softness 0))))
+          → cond t (got 0 at) (numberIn Shortest 0 softness BadFirmness s at) ≡ got (cond soft softness 0) (at + length (cond t [] (shortNumber (cond soft softness 0))))
       go true true firm h = let f = firm refl in let z : _≡_ {A = ℕ} 0 1 = cc in absurd (omega arith)
       go true false firm h = let e : at ≡ at + 0 = omega arith in ap (got 0) e
       go false true firm h = limits-back 0 softness BadFirmness s at 1 (omega arith) (omega arith) (omega arith) h
       go false false firm h = limits-back 0 softness BadFirmness s at 0 (omega arith) (omega arith) (omega arith) h
 
-  firmness-short : {v p : ℕ} → firmnessAt s edition at ≡ got v p
+module _ (rule : Rule) (s : List ℕ) (edition at : ℕ) where
+  firmness-short : {v p : ℕ} → firmnessAt rule s edition at ≡ got v p
       → (eqb edition minEdition ≡ true → eqb v softness ≡ false) × (at + length (shortFirmness edition (eqb v softness)) ≤ p)
   unfolding firmnessAt shortFirmness
   firmness-short {v} {p} e = go (eqb edition minEdition) e
     where
-      go : (t : Bool) → cond t (got 0 at) (numberIn 0 softness BadFirmness s at) ≡ got v p
+      go : (t : Bool) → cond t (got 0 at) (numberIn rule 0 softness BadFirmness s at) ≡ got v p
           → (t ≡ true → eqb v softness ≡ false) × (at + length (cond t [] (shortNumber (cond (eqb v softness) softness 0))) ≤ p)
       go true e = (λ z. ap (λ x. eqb x softness) (sym (got-value e)), omega (arith, got-place e))
       go false e = (
         λ z. let y : _≡_ {A = ℕ} 0 1 = cc in absurd (omega arith),
-        omega (arith, limits-place 0 softness BadFirmness s at e .0, soft-byte (eqb v softness)),
+        omega (arith, limits-place rule 0 softness BadFirmness s at e .0, soft-byte (eqb v softness)),
       )
 
 -- ---- the edge
@@ -132,7 +136,7 @@ module _ (s : List ℕ) (edition at : ℕ) where
 module _ (s : List ℕ) (edition n : ℕ) (few : n ≤ maxSteps) where
   -- an edge is read back
   pub edge-back : (at : ℕ) (e : TableEdge) → TellableEdge edition n e → Stands s at (shortEdge edition e)
-      → Back (λ (x : TableEdge). x) (tableEdgeAt s edition n at) e (at + length (shortEdge edition e))
+      → Back (λ (x : TableEdge). x) (tableEdgeAt Shortest s edition n at) e (at + length (shortEdge edition e))
   unfolding tableEdgeAt shortEdge
   edge-back at e g h =
       let a = shortEnds e ++ shortSizes e in
@@ -146,20 +150,21 @@ module _ (s : List ℕ) (edition n : ℕ) (few : n ≤ maxSteps) where
         says = ap (tableEdge (ownEdge e)) (soft-told (e .soft));
       }
 
+module _ (rule : Rule) (s : List ℕ) (edition n : ℕ) (few : n ≤ maxSteps) where
   -- an edge that was read can be told in that edition, and takes no fewer bytes than it has when written in it
-  pub edge-short : (at : ℕ) (e : TableEdge) (p : ℕ) → tableEdgeAt s edition n at ≡ got e p → TellableEdge edition n e × (at + length (shortEdge edition e) ≤ p)
+  pub edge-short : (at : ℕ) (e : TableEdge) (p : ℕ) → tableEdgeAt rule s edition n at ≡ got e p → TellableEdge edition n e × (at + length (shortEdge edition e) ≤ p)
   unfolding tableEdgeAt shortEdge
   edge-short at e p r =
-      let a = came (edgeAt s n at) _ r in
-      let f = came (firmnessAt s edition (a .place)) _ (a .next) in
+      let a = came (edgeAt rule s n at) _ r in
+      let f = came (firmnessAt rule s edition (a .place)) _ (a .next) in
       let own = a .value in
       let soft = eqb (f .value) softness in
-      let firm = firmness-short s edition (a .place) (f .first) in
-      let width = own-short s n few at own (a .place) (a .first) in
+      let firm = firmness-short rule s edition (a .place) (f .first) in
+      let width = own-short rule s n few at own (a .place) (a .first) in
       let four = four-long (shortNumber (own .from)) (shortNumber (own .to)) (shortNumber (own .gap)) (shortNumber (own .weight)) in
       let whole = length-append (shortEnds (tableEdge own soft) ++ shortSizes (tableEdge own soft)) (shortFirmness edition soft) in
       subst (λ (e : TableEdge). TellableEdge edition n e × (at + length (shortEnds e ++ shortSizes e ++ shortFirmness edition (e .soft)) ≤ p)) (got-value (f .next))
-      (record { own = edge-fair s n at (a .first) .0; firm = firm .0 }, omega (arith, width, four, whole, firm .1, got-place (f .next)))
+      (record { own = edge-fair rule s n at (a .first) .0; firm = firm .0 }, omega (arith, width, four, whole, firm .1, got-place (f .next)))
 
 -- ---- the edition that tells a list of edges
 

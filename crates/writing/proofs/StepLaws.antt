@@ -9,6 +9,8 @@ use borrow.Author.Tests.{leb-true, ltb-true}
 use lib.Dec.{leb, ltb, eqb}
 use lib.ListN.{length, getD, take, drop, length-append}
 use lib.Seq.{drop-cons}
+use Rattle.table.specs.declared.rule.Rule.{Rule}
+use Rattle.table.specs.declared.rule.Rule.the-variants.{Shortest}
 use Rattle.table.specs.declared.types.Kind.{Kind}
 use Rattle.table.specs.declared.types.Kind.the-variants.{Check, Adjust, Wait}
 use Rattle.outcome.specs.declared.Refusal.the-variants.{Cut, BadKind, OutOfRange, BadNameByte}
@@ -32,7 +34,7 @@ use Rattle.writing.proofs.EachLaws.{Back}
 -- ---- read back
 
 module _ (s : List ℕ) where
-  kind-back : (at : ℕ) (k : Kind) → KindInRange k → Stands s at (shortKind k) → kindAt s at ≡ got k (at + length (shortKind k))
+  kind-back : (at : ℕ) (k : Kind) → KindInRange k → Stands s at (shortKind k) → kindAt Shortest s at ≡ got k (at + length (shortKind k))
   unfolding kindAt adjustAt waitAt
   kind-back at Check g h = rw (limits-back 0 maxKind BadKind s at 0 (omega arith) (omega arith) (omega arith) h)
   kind-back at (Adjust t) g h =
@@ -57,7 +59,7 @@ module _ (s : List ℕ) where
       rw (one, rest, v, e)
 
   named-back : (k : Kind) (at : ℕ) (name : List ℕ) → FairName name → Stands s at (shortName name)
-      → namedAt s k at ≡ got (record { kind = k; start = at + length (shortNumber (length name)); len = length name }) (at + length (shortName name))
+      → namedAt Shortest s k at ≡ got (record { kind = k; start = at + length (shortNumber (length name)); len = length name }) (at + length (shortName name))
   unfolding namedAt nameAt shortName
   named-back k at name g h =
       let a = limits-back minName maxName OutOfRange s at (length name) (g .some) (g .short) (omega arith) (stands-first (shortNumber (length name)) name h) in
@@ -66,7 +68,7 @@ module _ (s : List ℕ) where
       rw (a, b) (ap (got (record { kind = k; start = at + length (shortNumber (length name)); len = length name })) e)
 
   -- A step is read back with its name where the writer put it: the kind, the length and the name stand one behind the other.
-  pub step-back : (at : ℕ) (st : SaidStep) → SayableStep st → Stands s at (shortStep st) → Back (saidStep s) (stepAt s at) st (at + length (shortStep st))
+  pub step-back : (at : ℕ) (st : SaidStep) → SayableStep st → Stands s at (shortStep st) → Back (saidStep s) (stepAt Shortest s at) st (at + length (shortStep st))
   unfolding stepAt shortStep shortName
   step-back at st g h =
       let kind = shortKind (st .kind) in
@@ -84,30 +86,30 @@ module _ (s : List ℕ) where
 
 -- ---- no fewer bytes
 
-module _ (s : List ℕ) where
-  kind-short : (at : ℕ) {k : Kind} {p : ℕ} → kindAt s at ≡ got k p → KindInRange k × (at + length (shortKind k) ≤ p)
+module _ (rule : Rule) (s : List ℕ) where
+  kind-short : (at : ℕ) {k : Kind} {p : ℕ} → kindAt rule s at ≡ got k p → KindInRange k × (at + length (shortKind k) ≤ p)
   unfolding kindAt adjustAt waitAt
   kind-short at {k} {p} e =
-      let c = came (numberIn 0 maxKind BadKind s at) _ e in
-      go (eqb (c .value) 0) (eqb (c .value) 1) (c .place) (limits-place 0 maxKind BadKind s at (c .first) .0) (c .next)
+      let c = came (numberIn rule 0 maxKind BadKind s at) _ e in
+      go (eqb (c .value) 0) (eqb (c .value) 1) (c .place) (limits-place rule 0 maxKind BadKind s at (c .first) .0) (c .next)
     where
       go : (t u : Bool) (q : ℕ) → at < q
-          → cond t (got Check q) (cond u (andThen (numberIn 0 maxTolerance OutOfRange s q) λ t p. got (Adjust t) p) (andThen (numberIn minMinutes maxMinutes OutOfRange s q) λ m p. got (Wait m) p)) ≡ got k p
+          → cond t (got Check q) (cond u (andThen (numberIn rule 0 maxTolerance OutOfRange s q) λ t p. got (Adjust t) p) (andThen (numberIn rule minMinutes maxMinutes OutOfRange s q) λ m p. got (Wait m) p)) ≡ got k p
           → KindInRange k × (at + length (shortKind k) ≤ p)
       go true u q h e =
           subst (λ k. KindInRange k × (at + length (shortKind k) ≤ p)) (got-value e)
           (tt, omega (arith, got-place e, bytes-one 0 (omega arith)))
       go false true q h e =
-          let c = came (numberIn 0 maxTolerance OutOfRange s q) _ e in
+          let c = came (numberIn rule 0 maxTolerance OutOfRange s q) _ e in
           subst (λ k. KindInRange k × (at + length (shortKind k) ≤ p)) (got-value (c .next)) (
-            in-limits 0 maxTolerance OutOfRange s q (c .first) .1,
-            omega (arith, got-place (c .next), bytes-one 1 (omega arith), length-append (shortNumber 1) (shortNumber (c .value)), limits-short 0 maxTolerance OutOfRange s q (omega arith) (c .first)),
+            in-limits rule 0 maxTolerance OutOfRange s q (c .first) .1,
+            omega (arith, got-place (c .next), bytes-one 1 (omega arith), length-append (shortNumber 1) (shortNumber (c .value)), limits-short rule 0 maxTolerance OutOfRange s q (omega arith) (c .first)),
           )
       go false false q h e =
-          let c = came (numberIn minMinutes maxMinutes OutOfRange s q) _ e in
+          let c = came (numberIn rule minMinutes maxMinutes OutOfRange s q) _ e in
           subst (λ k. KindInRange k × (at + length (shortKind k) ≤ p)) (got-value (c .next)) (
-            in-limits minMinutes maxMinutes OutOfRange s q (c .first),
-            omega (arith, got-place (c .next), bytes-one 2 (omega arith), length-append (shortNumber 2) (shortNumber (c .value)), limits-short minMinutes maxMinutes OutOfRange s q (omega arith) (c .first)),
+            in-limits rule minMinutes maxMinutes OutOfRange s q (c .first),
+            omega (arith, got-place (c .next), bytes-one 2 (omega arith), length-append (shortNumber 2) (shortNumber (c .value)), limits-short rule minMinutes maxMinutes OutOfRange s q (omega arith) (c .first)),
           )
 
   -- a byte of a name is the byte at its place, and in range
@@ -145,14 +147,14 @@ module _ (s : List ℕ) where
         ap suc (b .3),
       )
 
-  named-short : (k : Kind) (at : ℕ) {st : Step} {p : ℕ} → namedAt s k at ≡ got st p
+  named-short : (k : Kind) (at : ℕ) {st : Step} {p : ℕ} → namedAt rule s k at ≡ got st p
       → (st .kind ≡ k) × FairName (saidStep s st .name) × (at + length (shortName (saidStep s st .name)) ≤ p)
   unfolding namedAt nameAt shortName
   named-short k at {st} {p} e =
-      let l = came (numberIn minName maxName OutOfRange s at) _ e in
+      let l = came (numberIn rule minName maxName OutOfRange s at) _ e in
       let n = came (counted (many (nameByteAt s) (l .value) (l .place))) _ (l .next) in
-      let lim = in-limits minName maxName OutOfRange s at (l .first) in
-      let width = limits-short minName maxName OutOfRange s at (omega arith) (l .first) in
+      let lim = in-limits rule minName maxName OutOfRange s at (l .first) in
+      let width = limits-short rule minName maxName OutOfRange s at (omega arith) (l .first) in
       go (l .value) (l .place) (n .value) (n .place) (lim .0) (lim .1) width (many (nameByteAt s) (l .value) (l .place)) refl (n .first) (n .next)
     where
       go : (v q len e : ℕ) → minName ≤ v → v ≤ maxName → at + length (shortNumber v) ≤ q
@@ -172,10 +174,10 @@ module _ (s : List ℕ) where
 
   -- A step that was read keeps the limits, and takes no fewer bytes than it has when written: a part of it never has fewer than its
   -- shortest form, and a name is as long here as there.
-  pub step-short : (at : ℕ) (st : Step) (p : ℕ) → stepAt s at ≡ got st p → SayableStep (saidStep s st) × (at + length (shortStep (saidStep s st)) ≤ p)
+  pub step-short : (at : ℕ) (st : Step) (p : ℕ) → stepAt rule s at ≡ got st p → SayableStep (saidStep s st) × (at + length (shortStep (saidStep s st)) ≤ p)
   unfolding stepAt shortStep
   step-short at st p e =
-      let c = came (kindAt s at) _ e in
+      let c = came (kindAt rule s at) _ e in
       let a = kind-short at (c .first) in
       let b = named-short (c .value) (c .place) (c .next) in (
         record { kind = subst KindInRange (sym (b .0)) (a .0); name = b .1 },

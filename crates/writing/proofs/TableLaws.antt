@@ -9,18 +9,21 @@ use lib.ListN.{length, length-append, length-map}
 use Rattle.graph.specs.declared.TableEdge.{TableEdge}
 use Rattle.outcome.specs.declared.Refusal.the-variants.{BadEdition, ManySteps, ManyEdges, Spare}
 use Rattle.outcome.specs.Refusal.{Outcome, done, thenDo}
+use Rattle.table.specs.declared.rule.Rule.{Rule}
+use Rattle.table.specs.declared.rule.Rule.the-variants.{Old, Shortest}
 use Rattle.table.specs.declared.types.Step.{Step}
 use Rattle.table.specs.Limits.{minEdition, maxEdition, maxSteps, maxEdges}
 use Rattle.table.specs.Number.{Read, got, fault, numberIn}
-use Rattle.table.specs.Table.{Contents, stepAt, tableEdgeAt, stepsAt, edgesAt, listsAt, tableAt, outcome, read}
+use Rattle.table.specs.Table.{Contents, stepAt, tableEdgeAt, stepsAt, edgesAt, listsAt, tableAt, outcome, readBy, read}
 use Rattle.table.proofs.NumberLaws.{in-limits}
+use Rattle.table.proofs.OldLaws.{read-old}
 use Rattle.table.proofs.InverseLaws.{came, passed, got-value, many-length}
 use Rattle.table.proofs.PlaceLaws.{limits-place}
 use Rattle.encoding.specs.Said.{SaidStep, Said, saidStep, said}
 use Rattle.encoding.specs.Shortest.{shortNumber, shortStep, editionFor, shortEdge, each, shortList, shortest}
 use Rattle.encoding.proofs.ShortLaws.{bytes-one}
 use Rattle.encoding.proofs.BoundLaws.{edition-low}
-use Rattle.writing.specs.Calls.{shortened}
+use Rattle.writing.specs.Calls.{shortenedBy, shortened}
 use Rattle.writing.specs.Sayable.{Says, All, SayableStep, SayableEdge, Sayable}
 use Rattle.writing.proofs.StandsLaws.{Stands, stands-whole, stands-first, stands-then}
 use Rattle.writing.proofs.BackLaws.{limits-back, limits-short}
@@ -36,24 +39,24 @@ map-same (a ∷ l) = ap (λ m. a ∷ m) (map-same l)
 
 module _ (s : List ℕ) where
   steps-back : (at : ℕ) (l : List SaidStep) → length l ≤ maxSteps → All SayableStep l → Stands s at (shortList shortStep l)
-      → Back (map (saidStep s)) (stepsAt s at) l (at + length (shortList shortStep l))
+      → Back (map (saidStep s)) (stepsAt Shortest s at) l (at + length (shortList shortStep l))
   unfolding stepsAt shortList
   steps-back at l few g h =
       let a = shortNumber (length l) in
       let b = each shortStep l in
       let n = limits-back 0 maxSteps ManySteps s at (length l) (omega arith) few (omega arith) (stands-first a b h) in
-      let m = many-back (stepAt s) (saidStep s) shortStep SayableStep s (step-back s) (at + length a) l g (stands-then a b h) in
+      let m = many-back (stepAt Shortest s) (saidStep s) shortStep SayableStep s (step-back s) (at + length a) l g (stands-then a b h) in
       let e : at + length a + length b ≡ at + length (a ++ b) = omega (arith, length-append a b) in
       record { value = m .value; reads = rw n (m .reads ∙ ap (got (m .value)) e); says = m .says }
 
   edges-back : (edition n at : ℕ) (l : List TableEdge) → n ≤ maxSteps → length l ≤ maxEdges → All (TellableEdge edition n) l
-      → Stands s at (shortList (shortEdge edition) l) → edgesAt s edition n at ≡ got l (at + length (shortList (shortEdge edition) l))
+      → Stands s at (shortList (shortEdge edition) l) → edgesAt Shortest s edition n at ≡ got l (at + length (shortList (shortEdge edition) l))
   unfolding edgesAt shortList
   edges-back edition n at l low few g h =
       let a = shortNumber (length l) in
       let b = each (shortEdge edition) l in
       let c = limits-back 0 maxEdges ManyEdges s at (length l) (omega arith) few (omega arith) (stands-first a b h) in
-      let m = many-back (tableEdgeAt s edition n) (λ e. e) (shortEdge edition) (TellableEdge edition n) s (edge-back s edition n low) (at + length a) l g (stands-then a b h) in
+      let m = many-back (tableEdgeAt Shortest s edition n) (λ e. e) (shortEdge edition) (TellableEdge edition n) s (edge-back s edition n low) (at + length a) l g (stands-then a b h) in
       let e : at + length a + length b ≡ at + length (a ++ b) = omega (arith, length-append a b) in
       let same : m .value ≡ l = sym (map-same (m .value)) ∙ m .says in
       rw c (m .reads ∙ ap (got (m .value)) e ∙ ap (λ x. got x (at + length (a ++ b))) same)
@@ -61,7 +64,7 @@ module _ (s : List ℕ) where
 -- Whatever keeps the limits is said by its shortest table. The edition, the steps and the edges stand in it one behind the other and
 -- nothing follows; each of them is read back from where it stands.
 pub shortest-back : (what : Said) → Sayable what → Says (shortest what) what
-unfolding read tableAt listsAt shortest
+unfolding readBy tableAt listsAt shortest
 shortest-back what g =
     let s = shortest what in
     let edition = editionFor (what .edges) in
@@ -97,16 +100,16 @@ list-wide at q p n l h k = omega arith
 whole-wide : (a b c : List ℕ) (p q e len : ℕ) → 0 + length a ≤ p → p + length b ≤ q → q + length c ≤ e → e ≡ len → length (a ++ b ++ c) ≤ len
 whole-wide a b c p q e len h k m end = omega (arith, length-append a b, length-append (a ++ b) c)
 
-module _ (s : List ℕ) where
-  steps-short : (at : ℕ) {l : List Step} {p : ℕ} → stepsAt s at ≡ got l p
+module _ (rule : Rule) (s : List ℕ) where
+  steps-short : (at : ℕ) {l : List Step} {p : ℕ} → stepsAt rule s at ≡ got l p
       → (length l ≤ maxSteps) × All SayableStep (map (saidStep s) l) × (at + length (shortList shortStep (map (saidStep s) l)) ≤ p)
   unfolding stepsAt shortList
   steps-short at {l} {p} e =
-      let n = came (numberIn 0 maxSteps ManySteps s at) _ e in
-      let few = in-limits 0 maxSteps ManySteps s at (n .first) .1 in
-      let width = limits-short 0 maxSteps ManySteps s at (omega arith) (n .first) in
-      let count = many-length (stepAt s) (n .value) (n .place) (n .next) in
-      let all = many-short (stepAt s) (saidStep s) shortStep SayableStep (step-short s) (n .value) (n .place) (n .next) in
+      let n = came (numberIn rule 0 maxSteps ManySteps s at) _ e in
+      let few = in-limits rule 0 maxSteps ManySteps s at (n .first) .1 in
+      let width = limits-short rule 0 maxSteps ManySteps s at (omega arith) (n .first) in
+      let count = many-length (stepAt rule s) (n .value) (n .place) (n .next) in
+      let all = many-short (stepAt rule s) (saidStep s) shortStep SayableStep (step-short rule s) (n .value) (n .place) (n .next) in
       let same : length (map (saidStep s) l) ≡ n .value = length-map l (saidStep s) ∙ count in (
         subst (λ k. k ≤ maxSteps) (sym count) few,
         all .0,
@@ -114,15 +117,15 @@ module _ (s : List ℕ) where
             (list-wide at (n .place) p (length (shortNumber (n .value))) (length (each shortStep (map (saidStep s) l))) width (all .1))),
       )
 
-  edges-short : (edition n at : ℕ) {l : List TableEdge} {p : ℕ} → n ≤ maxSteps → edgesAt s edition n at ≡ got l p
+  edges-short : (edition n at : ℕ) {l : List TableEdge} {p : ℕ} → n ≤ maxSteps → edgesAt rule s edition n at ≡ got l p
       → (length l ≤ maxEdges) × All (TellableEdge edition n) l × (at + length (shortList (shortEdge (editionFor l)) l) ≤ p)
   unfolding edgesAt shortList
   edges-short edition n at {l} {p} low e =
-      let m = came (numberIn 0 maxEdges ManyEdges s at) _ e in
-      let few = in-limits 0 maxEdges ManyEdges s at (m .first) .1 in
-      let width = limits-short 0 maxEdges ManyEdges s at (omega arith) (m .first) in
-      let count = many-length (tableEdgeAt s edition n) (m .value) (m .place) (m .next) in
-      let all = many-short (tableEdgeAt s edition n) (λ e. e) (shortEdge edition) (TellableEdge edition n) (edge-short s edition n low) (m .value) (m .place) (m .next) in
+      let m = came (numberIn rule 0 maxEdges ManyEdges s at) _ e in
+      let few = in-limits rule 0 maxEdges ManyEdges s at (m .first) .1 in
+      let width = limits-short rule 0 maxEdges ManyEdges s at (omega arith) (m .first) in
+      let count = many-length (tableEdgeAt rule s edition n) (m .value) (m .place) (m .next) in
+      let all = many-short (tableEdgeAt rule s edition n) (λ e. e) (shortEdge edition) (TellableEdge edition n) (edge-short rule s edition n low) (m .value) (m .place) (m .next) in
       let same = map-same l in
       let told : All (TellableEdge edition n) l = subst (All (TellableEdge edition n)) same (all .0) in
       let wide : m .place + length (each (shortEdge edition) l) ≤ p = subst (λ x. m .place + length (each (shortEdge edition) x) ≤ p) same (all .1) in
@@ -138,17 +141,17 @@ record Shortened (s : List ℕ) (c : Contents) : Type 0 where
   fair : Sayable (said s c)
   short : length (shortest (said s c)) ≤ length s
 
-table-short : (s : List ℕ) {c : Contents} {p : ℕ} → tableAt s 0 ≡ got c p → Shortened s c
+table-short : (rule : Rule) (s : List ℕ) {c : Contents} {p : ℕ} → tableAt rule s 0 ≡ got c p → Shortened s c
 unfolding tableAt listsAt shortest
-table-short s {c} {p} e =
-    let ed = came (numberIn minEdition maxEdition BadEdition s 0) _ e in
-    let st = came (stepsAt s (ed .place)) _ (ed .next) in
-    let es = came (edgesAt s (ed .value) (length (st .value)) (st .place)) _ (st .next) in
+table-short rule s {c} {p} e =
+    let ed = came (numberIn rule minEdition maxEdition BadEdition s 0) _ e in
+    let st = came (stepsAt rule s (ed .place)) _ (ed .next) in
+    let es = came (edgesAt rule s (ed .value) (length (st .value)) (st .place)) _ (st .next) in
     let last = passed (eqb (es .place) (length s)) Spare _ (es .next) in
     let end = eqb-true (es .place) (length s) (last .0) in
-    let took = limits-place minEdition maxEdition BadEdition s 0 (ed .first) in
-    let b = steps-short s (ed .place) (st .first) in
-    let d = edges-short s (ed .value) (length (st .value)) (st .place) (b .0) (es .first) in
+    let took = limits-place rule minEdition maxEdition BadEdition s 0 (ed .first) in
+    let b = steps-short rule s (ed .place) (st .first) in
+    let d = edges-short rule s (ed .value) (length (st .value)) (st .place) (b .0) (es .first) in
     let count = length-map (st .value) (saidStep s) in
     let edition = editionFor (es .value) in
     let a : 0 + length (shortNumber edition) ≤ ed .place = omega (arith, took .0, bytes-one edition (omega (arith, edition-low (es .value)))) in
@@ -166,47 +169,53 @@ table-short s {c} {p} e =
           a (b .2) (d .2) end;
     })
 
-read-shortened : (s : List ℕ) {c : Contents} → read s ≡ done c → Shortened s c
-unfolding read
-read-shortened s {c} e = go (tableAt s 0) refl e
+read-shortened : (rule : Rule) (s : List ℕ) {c : Contents} → readBy rule s ≡ done c → Shortened s c
+unfolding readBy
+read-shortened rule s {c} e = go (tableAt rule s 0) refl e
   where
-    go : (x : Read Contents) → tableAt s 0 ≡ x → outcome x ≡ done c → Shortened s c
-    go (got t p) f e = let k : t ≡ c = cc in subst (Shortened s) k (table-short s f)
+    go : (x : Read Contents) → tableAt rule s 0 ≡ x → outcome x ≡ done c → Shortened s c
+    go (got t p) f e = let k : t ≡ c = cc in subst (Shortened s) k (table-short rule s f)
     go (fault r) f e = let z : _≡_ {A = ℕ} 0 1 = cc in absurd (omega arith)
 
 -- ---- an accepted table and its shortest form
 
-module _ (bytes : List ℕ) {c : Contents} (e : read bytes ≡ done c) where
+-- accepted by any rule: what is said of its shortest form holds of today's tables, and of those that the old rule reads
+module _ (rule : Rule) (bytes : List ℕ) {c : Contents} (e : readBy rule bytes ≡ done c) where
   -- an accepted table says what keeps the limits
   pub read-sayable : Sayable (said bytes c)
-  read-sayable = read-shortened bytes e .fair
+  read-sayable = read-shortened rule bytes e .fair
 
-  -- the shortest form is accepted, and says what the table says
+  -- the shortest form is accepted today, and says what the table says
   pub written-back : Says (shortest (said bytes c)) (said bytes c)
   written-back = shortest-back (said bytes c) read-sayable
 
   -- no accepted table that says the same is shorter
-  pub none-shorter : (other : List ℕ) {d : Contents} → read other ≡ done d → said other d ≡ said bytes c → length (shortest (said bytes c)) ≤ length other
-  none-shorter other f same = subst (λ w. length (shortest w) ≤ length other) same (read-shortened other f .short)
+  pub none-shorter : (by : Rule) (other : List ℕ) {d : Contents} → readBy by other ≡ done d → said other d ≡ said bytes c
+      → length (shortest (said bytes c)) ≤ length other
+  none-shorter by other f same = subst (λ w. length (shortest w) ≤ length other) same (read-shortened by other f .short)
 
-  -- to write it again changes nothing
+  -- to write it again, by either rule, changes nothing
   pub written-again : shortened (shortest (said bytes c)) ≡ done (shortest (said bytes c))
-  unfolding shortened
+  unfolding shortenedBy
   written-again = rw (written-back .reads, written-back .says)
+
+  pub converted-again : shortenedBy Old (shortest (said bytes c)) ≡ done (shortest (said bytes c))
+  unfolding shortenedBy
+  converted-again = rw (read-old Shortest (shortest (said bytes c)) (written-back .reads), written-back .says)
 
   -- Two accepted tables that say the same have the same shortest form, and two that do not have not: so tables may be compared by the
   -- bytes of their shortest forms. What reads back from equal bytes is equal.
-  module _ (other : List ℕ) {d : Contents} (f : read other ≡ done d) where
-    pub same-bytes : said bytes c ≡ said other d → shortened bytes ≡ shortened other
-    unfolding shortened
+  module _ (by : Rule) (other : List ℕ) {d : Contents} (f : readBy by other ≡ done d) where
+    pub same-bytes : said bytes c ≡ said other d → shortenedBy rule bytes ≡ shortenedBy by other
+    unfolding shortenedBy
     same-bytes h = rw (e, f, h)
 
-    told : thenDo (read bytes) (λ c. done (shortest (said bytes c))) ≡ thenDo (read other) (λ d. done (shortest (said other d)))
+    told : thenDo (readBy rule bytes) (λ c. done (shortest (said bytes c))) ≡ thenDo (readBy by other) (λ d. done (shortest (said other d)))
         → shortest (said bytes c) ≡ shortest (said other d)
     told h =
         let k : _≡_ {A = Outcome (List ℕ)} (done (shortest (said bytes c))) (done (shortest (said other d))) = rw (e, f) at h in
         cc
 
-    pub same-said : shortened bytes ≡ shortened other → said bytes c ≡ said other d
-    unfolding shortened
-    same-said h = said-once written-back (shortest-back (said other d) (read-shortened other f .fair)) (told h)
+    pub same-said : shortenedBy rule bytes ≡ shortenedBy by other → said bytes c ≡ said other d
+    unfolding shortenedBy
+    same-said h = said-once written-back (shortest-back (said other d) (read-shortened by other f .fair)) (told h)

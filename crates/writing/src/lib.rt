@@ -1,6 +1,6 @@
 // The writer: a table that was read, written back in its fewest bytes.
 //
-// The call takes any input, ends, and has no condition. Its contract puts its answer, told in numbers, and the buffer equal to what a
+// The calls take any input, end, and have no condition. Their contracts put the answer, told in numbers, and the buffer equal to what a
 // definition of specs/Calls.antt makes of the input.
 pub mod limits;
 
@@ -12,7 +12,8 @@ use encoding::step::write_steps;
 use labels::text::put_text;
 use outcome::Refusal;
 use outcome::Verdict;
-use table::read_table;
+use table::read_table_by;
+use table::rule::Rule;
 use table::types::Table;
 ghost use mathlib.Core.Path.{_≡_};
 ghost use Prim.Native.Nat.{_≤_};
@@ -20,7 +21,7 @@ ghost use lib.ListN.{length};
 ghost use Rattle.buffers.specs.Written.{Stored};
 ghost use Rattle.encoding.specs.Limits.{maxShortest};
 ghost use Rattle.encoding.specs.Shortest.{shortest};
-ghost use Rattle.writing.specs.Calls.{writeNumbers, writeCall};
+ghost use Rattle.writing.specs.Calls.{writeNumbers, writeCall, writeCallBy};
 ghost use Rattle.writing.specs.Writable.{WritableTable, tableSaid};
 
 // The shortest table is in the first bytes of the buffer, so many; or there is none, and why.
@@ -35,7 +36,15 @@ pub fn write_table(bytes: &[u8], out: &mut [u8]) -> WriteAnswer
     ensures { λ r. ⌜ writeNumbers r ≡ writeCall (now (bytes .entry)) (now (out .entry)) .numbers ⌝ }
     ensures { λ _. ⌜ now (out .exit) ≡ writeCall (now (bytes .entry)) (now (out .entry)) .out ⌝ }
 {
-    let t = read_table(bytes);
+    write_table_by(Rule::Shortest, bytes, out)
+}
+
+// The same for a table that is read by a rule: by the old one, a stored table is converted.
+pub fn write_table_by(rule: Rule, bytes: &[u8], out: &mut [u8]) -> WriteAnswer
+    ensures { λ r. ⌜ writeNumbers r ≡ writeCallBy rule (now (bytes .entry)) (now (out .entry)) .numbers ⌝ }
+    ensures { λ _. ⌜ now (out .exit) ≡ writeCallBy rule (now (bytes .entry)) (now (out .entry)) .out ⌝ }
+{
+    let t = read_table_by(rule, bytes);
     let verdict = t.verdict;
     match verdict {
         Verdict::Refused(f) => WriteAnswer::Refused(f),

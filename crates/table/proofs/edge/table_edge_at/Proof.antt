@@ -27,25 +27,25 @@ enum-known-f-2 c = c .match2 .keys1
 enum-known-firmness : tie.Need-enum-known-firmness
 enum-known-firmness c = c .match2 .keys2
 
-cast-t15 : tie.Need-cast-t15
-cast-t15 c =
-    let l = c .before .before .before .before .before .before in
-    omega (arith, edge-narrow _ _ _ (l .before .before .before .before .pre) (sym (l .before .before .edge-at .ensures) ∙ ap edgeRead (l .edge .given .1)))
-
 cast-t16 : tie.Need-cast-t16
 cast-t16 c =
-    let l = c .before .before .before .before .before .before .before in
-    omega (arith, edge-narrow _ _ _ (l .before .before .before .before .pre) (sym (l .before .before .edge-at .ensures) ∙ ap edgeRead (l .edge .given .1)))
+    let l = c .before .before .before .before .before .before in
+    omega (arith, edge-narrow _ _ _ _ (l .before .before .before .before .pre) (sym (l .before .before .edge-at .ensures) ∙ ap edgeRead (l .edge .given .1)))
 
 cast-t17 : tie.Need-cast-t17
 cast-t17 c =
-    let l = c .before .before .before .before .before .before .before .before in
-    omega (arith, edge-narrow _ _ _ (l .before .before .before .before .pre) (sym (l .before .before .edge-at .ensures) ∙ ap edgeRead (l .edge .given .1)))
+    let l = c .before .before .before .before .before .before .before in
+    omega (arith, edge-narrow _ _ _ _ (l .before .before .before .before .pre) (sym (l .before .before .edge-at .ensures) ∙ ap edgeRead (l .edge .given .1)))
 
 cast-t18 : tie.Need-cast-t18
 cast-t18 c =
+    let l = c .before .before .before .before .before .before .before .before in
+    omega (arith, edge-narrow _ _ _ _ (l .before .before .before .before .pre) (sym (l .before .before .edge-at .ensures) ∙ ap edgeRead (l .edge .given .1)))
+
+cast-t19 : tie.Need-cast-t19
+cast-t19 c =
     let l = c .before .before .before .before .before .before .before .before .before in
-    omega (arith, edge-narrow _ _ _ (l .before .before .before .before .pre) (sym (l .before .before .edge-at .ensures) ∙ ap edgeRead (l .edge .given .1)))
+    omega (arith, edge-narrow _ _ _ _ (l .before .before .before .before .pre) (sym (l .before .before .edge-at .ensures) ∙ ap edgeRead (l .edge .given .1)))
 
 returns : tie.Need-returns
 unfolding tableEdgeAt
@@ -73,10 +73,10 @@ table-edge-at-spec =
     firmness-at-requires
     enum-known-f-2
     enum-known-firmness
-    cast-t15
     cast-t16
     cast-t17
     cast-t18
+    cast-t19
     returns
     returns-2
     returns-3)

@@ -21,7 +21,7 @@ enum-known-m : tie.Need-enum-known-m
 enum-known-m c = c .match .keys2
 
 many-edges-requires : tie.Need-many-edges-requires
-many-edges-requires c κs = (c .before .before .before .before .before .pre, in-limits _ _ _ _ _ (sym (c .before .before .before .number-in .ensures) ∙ ap numberRead (c .before .m .given .1)) .1)
+many-edges-requires c κs = (c .before .before .before .before .before .pre, in-limits _ _ _ _ _ _ (sym (c .before .before .before .number-in .ensures) ∙ ap numberRead (c .before .m .given .1)) .1)
 
 returns : tie.Need-returns
 unfolding edgesAt

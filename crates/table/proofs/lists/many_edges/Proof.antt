@@ -13,10 +13,10 @@ use Rattle.table.proofs.lists.many_edges.Statement.{statement}
 use Rattle.table.proofs.lists.many_edges.Tie as tie
 
 abbrev Inv-loop : tie.InvT-loop
-Inv-loop s edition n at m list₀ p₀ i₀ list p i = Filling (tableEdgeAt s edition n) maxEdges noTableEdge m at i list p
+Inv-loop rule s edition n at m list₀ p₀ i₀ list p i = Filling (tableEdgeAt rule s edition n) maxEdges noTableEdge m at i list p
 
 abbrev μ-loop : tie.MeasureT-loop
-μ-loop s edition n at m list₀ p₀ i₀ list p i = m - i
+μ-loop rule s edition n at m list₀ p₀ i₀ list p i = m - i
 
 blank-edges-requires : tie.Need-blank-edges-requires Inv-loop μ-loop
 blank-edges-requires c κs = tt

@@ -13,10 +13,10 @@ use Rattle.table.proofs.lists.many_steps.Statement.{statement}
 use Rattle.table.proofs.lists.many_steps.Tie as tie
 
 abbrev Inv-loop : tie.InvT-loop
-Inv-loop s at n list₀ p₀ i₀ list p i = Filling (stepAt s) maxSteps noStep n at i list p
+Inv-loop rule s at n list₀ p₀ i₀ list p i = Filling (stepAt rule s) maxSteps noStep n at i list p
 
 abbrev μ-loop : tie.MeasureT-loop
-μ-loop s at n list₀ p₀ i₀ list p i = n - i
+μ-loop rule s at n list₀ p₀ i₀ list p i = n - i
 
 blank-steps-requires : tie.Need-blank-steps-requires Inv-loop μ-loop
 blank-steps-requires c κs = tt

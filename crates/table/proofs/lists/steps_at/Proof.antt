@@ -21,7 +21,7 @@ enum-known-n : tie.Need-enum-known-n
 enum-known-n c = c .match .keys2
 
 many-steps-requires : tie.Need-many-steps-requires
-many-steps-requires c κs = in-limits _ _ _ _ _ (sym (c .before .before .before .number-in .ensures) ∙ ap numberRead (c .before .n .given .1)) .1
+many-steps-requires c κs = in-limits _ _ _ _ _ _ (sym (c .before .before .before .number-in .ensures) ∙ ap numberRead (c .before .n .given .1)) .1
 
 returns : tie.Need-returns
 unfolding stepsAt

@@ -38,22 +38,22 @@ returns : tie.Need-returns
 returns c =
     let after-enum-told = c .before .before .before .before .before .before in
     let after-steps-at = after-enum-told .before .before in
-    c .refuse-table3 .ensures ∙ ap (λ x. tableRead (outcome x)) (sym (lists-spare _ _ _ _ (read-accepted (after-steps-at .steps-at .ensures) (after-enum-told .enum-told .given .1)) (read-count (after-steps-at .steps-at .ensures)) (read-accepted (c .before .before .before .before .before .edges-at .ensures) (c .before .before .before .enum-told2 .given .1)) (c .before .if1 .taken)))
+    c .refuse-table3 .ensures ∙ ap (λ x. tableRead (outcome x)) (sym (lists-spare _ _ _ _ _ (read-accepted (after-steps-at .steps-at .ensures) (after-enum-told .enum-told .given .1)) (read-count (after-steps-at .steps-at .ensures)) (read-accepted (c .before .before .before .before .before .edges-at .ensures) (c .before .before .before .enum-told2 .given .1)) (c .before .if1 .taken)))
 
 returns-2 : tie.Need-returns-2
-returns-2 c = c .refuse-table .ensures ∙ ap (λ x. tableRead (outcome x)) (sym (lists-stop _ _ _ (read-refused (c .before .before .before .before .steps-at .ensures) (c .before .before .verdict .given .1))))
+returns-2 c = c .refuse-table .ensures ∙ ap (λ x. tableRead (outcome x)) (sym (lists-stop _ _ _ _ (read-refused (c .before .before .before .before .steps-at .ensures) (c .before .before .verdict .given .1))))
 
 returns-3 : tie.Need-returns-3
 returns-3 c =
     let after-steps-at = c .before .before .before .before .before .before .before in
-    c .refuse-table2 .ensures ∙ ap (λ x. tableRead (outcome x)) (sym (lists-cut _ _ _ _ (read-accepted (after-steps-at .steps-at .ensures) (c .before .before .before .before .before .enum-told .given .1)) (read-count (after-steps-at .steps-at .ensures)) (read-refused (c .before .before .before .before .edges-at .ensures) (c .before .before .judged .given .1))))
+    c .refuse-table2 .ensures ∙ ap (λ x. tableRead (outcome x)) (sym (lists-cut _ _ _ _ _ (read-accepted (after-steps-at .steps-at .ensures) (c .before .before .before .before .before .enum-told .given .1)) (read-count (after-steps-at .steps-at .ensures)) (read-refused (c .before .before .before .before .edges-at .ensures) (c .before .before .judged .given .1))))
 
 returns-4 : tie.Need-returns-4
 returns-4 c =
     let after-edges-at = c .before .before .before .before .before .before in
     let after-enum-told = after-edges-at .before in
     let after-steps-at = after-enum-told .before .before in
-    sym (ap (λ x. tableRead (outcome x)) (lists-whole _ _ _ _ (read-accepted (after-steps-at .steps-at .ensures) (after-enum-told .enum-told .given .1)) (read-count (after-steps-at .steps-at .ensures)) (read-accepted (after-edges-at .edges-at .ensures) (c .before .before .before .before .enum-told2 .given .1)) (c .before .before .if1 .left)) ∙ ap (λ t. record { verdict = Accepted; table = t }) (table-whole (after-steps-at .steps-at .ensures) (after-edges-at .edges-at .ensures)))
+    sym (ap (λ x. tableRead (outcome x)) (lists-whole _ _ _ _ _ (read-accepted (after-steps-at .steps-at .ensures) (after-enum-told .enum-told .given .1)) (read-count (after-steps-at .steps-at .ensures)) (read-accepted (after-edges-at .edges-at .ensures) (c .before .before .before .before .enum-told2 .given .1)) (c .before .before .if1 .left)) ∙ ap (λ t. record { verdict = Accepted; table = t }) (table-whole (after-steps-at .steps-at .ensures) (after-edges-at .edges-at .ensures)))
 
 pub read-lists-spec : {M : Type 1} → statement M
 read-lists-spec =

@@ -1,12 +1,12 @@
--- `read_table` meets its contract: the edition, then the lists, as in `tableAt`.
+-- `read_table_by` meets its contract: the edition, then the lists, as in `tableAt`.
 use mathlib.Core.Path.{refl, sym, ap, _∙_}
-use Rattle.table.specs.Table.{tableAt, read, outcome}
+use Rattle.table.specs.Table.{tableAt, readBy, outcome}
 use Rattle.table.specs.Number.{numberRead}
 use Rattle.table.specs.Calls.{tableRead}
 use Rattle.table.proofs.ThenLaws.{then-fault, then-got}
 use Rattle.table.proofs.WholeReadLaws.{whole-read}
-use Rattle.table.proofs.read_table.Statement.{statement}
-use Rattle.table.proofs.read_table.Tie as tie
+use Rattle.table.proofs.read_table_by.Statement.{statement}
+use Rattle.table.proofs.read_table_by.Tie as tie
 
 number-in-requires : tie.Need-number-in-requires
 number-in-requires c κs = tt
@@ -24,15 +24,15 @@ read-lists-requires : tie.Need-read-lists-requires
 read-lists-requires c κs = tt
 
 returns : tie.Need-returns
-unfolding read tableAt
-returns c = whole-read _ (c .refuse-table .ensures ∙ ap (λ x. tableRead (outcome x)) (then-fault _ (sym (c .before .before .before .before .number-in .ensures) ∙ ap numberRead (c .before .before .f .given .1))))
+unfolding readBy tableAt
+returns c = whole-read _ _ (c .refuse-table .ensures ∙ ap (λ x. tableRead (outcome x)) (then-fault _ (sym (c .before .before .before .before .number-in .ensures) ∙ ap numberRead (c .before .before .f .given .1))))
 
 returns-2 : tie.Need-returns-2
-unfolding read tableAt
-returns-2 c = whole-read _ (c .read-lists .ensures ∙ ap (λ x. tableRead (outcome x)) (then-got _ (sym (c .before .before .before .before .number-in .ensures) ∙ ap numberRead (c .before .before .edition .given .1)) refl))
+unfolding readBy tableAt
+returns-2 c = whole-read _ _ (c .read-lists .ensures ∙ ap (λ x. tableRead (outcome x)) (then-got _ (sym (c .before .before .before .before .number-in .ensures) ∙ ap numberRead (c .before .before .edition .given .1)) refl))
 
-pub read-table-spec : {M : Type 1} → statement M
-read-table-spec =
+pub read-table-by-spec : {M : Type 1} → statement M
+read-table-by-spec =
     tie.close
     (tie.spec
     number-in-requires
