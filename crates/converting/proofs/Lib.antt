@@ -1,0 +1,3 @@
+pub mod ConvertLaws
+pub mod CallLaws
+pub mod StarredLaws
