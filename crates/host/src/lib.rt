@@ -5,6 +5,7 @@ use ordering::ChartAnswer;
 use queries::types::CountsAnswer;
 use queries::types::NameAnswer;
 use rows::types::RowsAnswer;
+use table::rule::Rule;
 use words::counts_word;
 use words::figures_word;
 use words::name_word;
@@ -13,7 +14,8 @@ use words::written_word;
 use writing::WriteAnswer;
 ghost use mathlib.Core.Path.{_≡_};
 ghost use Rattle.queries.specs.Calls.{countsCall, nameCall};
-ghost use Rattle.writing.specs.Calls.{writeCall};
+ghost use Rattle.table.specs.declared.rule.Rule.the-variants.{Old};
+ghost use Rattle.writing.specs.Calls.{writeCall, writeCallBy};
 ghost use Rattle.flatten.specs.Records.{recordsOf};
 ghost use Rattle.edgelist.specs.Calls.{recordCall, RecordsBest};
 ghost use Rattle.layering.specs.Calls.{rowsCall, TableBest};
@@ -51,7 +53,26 @@ pub extern "C" fn yuvatondro_write(table: &[u8], out: &mut [u8]) -> u64
     ensures { λ r. ⌜ r ≡ doneWord (writeCall (now (table .entry)) (now (out .entry)) .numbers) ⌝ }
     ensures { λ _. ⌜ now (out .exit) ≡ writeCall (now (table .entry)) (now (out .entry)) .out ⌝ }
 {
-    match writing::write_table(table, out) {
+    write_by(Rule::Shortest, table, out)
+}
+
+// The same for a stored table, which is read by the old rule.
+#[no_mangle]
+pub extern "C" fn yuvatondro_convert(table: &[u8], out: &mut [u8]) -> u64
+    ensures { λ r. ⌜ writtenRead r ≡ writeCallBy Old (now (table .entry)) (now (out .entry)) .numbers ⌝ }
+    ensures { λ r. ⌜ r ≡ doneWord (writeCallBy Old (now (table .entry)) (now (out .entry)) .numbers) ⌝ }
+    ensures { λ _. ⌜ now (out .exit) ≡ writeCallBy Old (now (table .entry)) (now (out .entry)) .out ⌝ }
+{
+    write_by(Rule::Old, table, out)
+}
+
+// A table that is read by a rule, written back.
+fn write_by(rule: Rule, table: &[u8], out: &mut [u8]) -> u64
+    ensures { λ r. ⌜ writtenRead r ≡ writeCallBy rule (now (table .entry)) (now (out .entry)) .numbers ⌝ }
+    ensures { λ r. ⌜ r ≡ doneWord (writeCallBy rule (now (table .entry)) (now (out .entry)) .numbers) ⌝ }
+    ensures { λ _. ⌜ now (out .exit) ≡ writeCallBy rule (now (table .entry)) (now (out .entry)) .out ⌝ }
+{
+    match writing::write_table_by(rule, table, out) {
         WriteAnswer::Refused(f) => refusal_word(f),
         WriteAnswer::Written(len) => written_word(len),
     }
