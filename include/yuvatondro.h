@@ -23,7 +23,7 @@ extern "C" {
 enum {
   YUVATONDRO_DONE = 0,
   YUVATONDRO_CUT = 1,           /* the bytes end in the middle of the table */
-  YUVATONDRO_OVERLONG = 2,      /* the third byte of a number has its high bit set */
+  YUVATONDRO_OVERLONG = 2,      /* the third byte of a number has its high bit set, or the last of its two or three bytes is 00 */
   YUVATONDRO_BAD_EDITION = 3,   /* an edition other than 1 and 2 */
   YUVATONDRO_MANY_STEPS = 4,    /* more than YUVATONDRO_MAX_STEPS steps */
   YUVATONDRO_BAD_KIND = 5,      /* a kind above 2 */
@@ -42,7 +42,8 @@ enum {
 enum { YUVATONDRO_MAX_STEPS = 64, YUVATONDRO_MAX_EDGES = 192, YUVATONDRO_MAX_POINTS = 1024 };
 
 /* The bytes of the longest shortest form: an edition, a count, 64 steps, a count, 192 edges, each as long as it can be there:
- * 1 + 1 + 64 * (1 + 2 + 1 + 16) + 2 + 192 * (1 + 1 + 1 + 2 + 1). */
+ * 1 + 1 + 64 * (1 + 2 + 1 + 16) + 2 + 192 * (1 + 1 + 1 + 2 + 1). No accepted table is longer either, so a buffer of so many bytes
+ * holds any. Only yuvatondro_convert takes longer ones, of up to 4,489 bytes. */
 enum { YUVATONDRO_MAX_SHORTEST = 2436 };
 
 /* The refusal of any answer, and the step that comes with refusal 11. */
@@ -94,6 +95,14 @@ static inline unsigned long yuvatondro_crossings(uint64_t chart) { return (unsig
  * enough, and so is one of YUVATONDRO_MAX_SHORTEST bytes. */
 uint64_t yuvatondro_write(const uint8_t *table, size_t table_len, uint8_t *out, size_t out_len);
 static inline size_t yuvatondro_written(uint64_t answer) { return (size_t)(answer >> 8); }
+
+/* The same for a table that was stored before long forms were refused: a number may have 00 for the last of its two or three bytes, as
+ * in 81 00 for 1, and 2 is for a third byte with its high bit set alone. All else is as in yuvatondro_write: what is written, the
+ * answer, the other refusals and their order, and which buffers are long enough.
+ *
+ * What it writes is accepted by every other call's reader and says what the stored table said. Of a table that the other calls accept
+ * it writes what yuvatondro_write writes, and so changes nothing when it is called again. */
+uint64_t yuvatondro_convert(const uint8_t *table, size_t table_len, uint8_t *out, size_t out_len);
 
 #ifdef __cplusplus
 }
