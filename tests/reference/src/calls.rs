@@ -1,11 +1,11 @@
-//! The six calls as a C caller meets them: packed answers, lent buffers.
+//! The seven calls as a C caller meets them: packed answers, lent buffers.
 
 use crate::chart::{draw_chart, Chart};
 use crate::records::{rows_of_records, Record};
 use crate::refusal::Refusal;
 use crate::shortest::{said, shortest};
 use crate::soft::rows_of_table;
-use crate::table::{read_table, Table};
+use crate::table::{read_stored, read_table, Table};
 
 /// The refusal's number in the low byte; a loop's step in the byte above.
 pub fn pack_refusal(refusal: Refusal) -> u64 {
@@ -43,7 +43,16 @@ pub fn chart(bytes: &[u8], rows: &mut [u8], order: &mut [u16]) -> u64 {
 }
 
 pub fn write(bytes: &[u8], buffer: &mut [u8]) -> u64 {
-    let written = read_table(bytes).map(|table| shortest(&said(bytes, &table)));
+    write_read(bytes, read_table(bytes), buffer)
+}
+
+pub fn convert(bytes: &[u8], buffer: &mut [u8]) -> u64 {
+    write_read(bytes, read_stored(bytes), buffer)
+}
+
+/// Of a table that was read, the shortest form.
+fn write_read(bytes: &[u8], table: Result<Table, Refusal>, buffer: &mut [u8]) -> u64 {
+    let written = table.map(|table| shortest(&said(bytes, &table)));
     pack(written.and_then(|written| hand_out_bytes(&written, buffer)))
 }
 

@@ -3,11 +3,13 @@
 pub mod calls;
 pub mod certificate;
 pub mod chart;
+pub mod convert;
 pub mod flow;
 pub mod listing;
 pub mod loops;
 pub mod order;
 pub mod points;
+pub mod program;
 pub mod random;
 pub mod records;
 pub mod refusal;

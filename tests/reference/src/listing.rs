@@ -1,27 +1,17 @@
 //! What the program `chart` prints.
 
 use crate::chart::{draw_chart, Chart};
-use crate::refusal::Refusal;
+use crate::program::judged_bytes;
 use crate::rows::row_count;
 use crate::table::{read_table, Kind, Table};
 
-pub const MAX_INPUT: usize = 8192;
-
 pub fn print_chart(input: &[u8]) -> Vec<u8> {
-    let bytes = &input[..input.len().min(MAX_INPUT)];
+    let bytes = judged_bytes(input);
     let drawn = read_table(bytes).and_then(|table| draw_chart(&table).map(|chart| (table, chart)));
     match drawn {
         Ok((table, chart)) => list_chart(bytes, &table, &chart),
-        Err(Refusal::Loop(step)) => format!("refused 11 {step}\n").into_bytes(),
-        Err(refusal) => format!("refused {}\n", refusal.number()).into_bytes(),
+        Err(refusal) => refusal.line(),
     }
-}
-
-/// The number of the refusal that a listing tells; 0 for a chart.
-pub fn refusal_of(listing: &[u8]) -> u8 {
-    let text = String::from_utf8_lossy(listing);
-    let number = text.strip_prefix("refused ").and_then(|rest| rest.split_whitespace().next());
-    number.map_or(0, |number| number.parse().expect("a refusal has a number"))
 }
 
 pub fn list_chart(bytes: &[u8], table: &Table, chart: &Chart) -> Vec<u8> {

@@ -40,4 +40,10 @@ impl Refusal {
             Refusal::BadFirmness => 15,
         }
     }
+
+    /// What a program prints for it.
+    pub fn line(self) -> Vec<u8> {
+        let step = if let Refusal::Loop(step) = self { format!(" {step}") } else { String::new() };
+        format!("refused {}{step}\n", self.number()).into_bytes()
+    }
 }

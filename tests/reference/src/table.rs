@@ -46,10 +46,25 @@ pub struct Table {
     pub edges: Vec<TableEdge>,
 }
 
-/// What is in range. The product's limits are `LIMITS`; wrong variants alter one of them.
+/// Which forms of a number are taken: told of its bytes, all but the last with the high bit set.
+pub type Rule = fn(&[u8]) -> bool;
+
+/// The last of several bytes is not 00.
+pub fn fewest_bytes(number: &[u8]) -> bool {
+    number.len() == 1 || number.last() != Some(&0)
+}
+
+/// The rule under which older tables were stored.
+pub fn any_form(_: &[u8]) -> bool {
+    true
+}
+
+/// What is in range, and which forms of numbers are taken. The product's limits are `LIMITS`; wrong variants alter one of
+/// them.
 #[derive(Clone)]
 pub struct Limits {
     pub number_bytes: u32,
+    pub rule: Rule,
     pub edition: RangeInclusive<u32>,
     pub steps: u32,
     pub kinds: u32,
@@ -65,6 +80,7 @@ pub struct Limits {
 
 pub const LIMITS: Limits = Limits {
     number_bytes: 3,
+    rule: fewest_bytes,
     edition: 1..=2,
     steps: 64,
     kinds: 3,
@@ -80,6 +96,11 @@ pub const LIMITS: Limits = Limits {
 
 pub fn read_table(bytes: &[u8]) -> Result<Table, Refusal> {
     read_within(bytes, &LIMITS)
+}
+
+/// By the old rule, for a table stored before long forms were refused.
+pub fn read_stored(bytes: &[u8]) -> Result<Table, Refusal> {
+    read_within(bytes, &Limits { rule: any_form, ..LIMITS })
 }
 
 /// Reads fields in order; each is judged as soon as its last byte is there.
@@ -119,12 +140,14 @@ impl Reader<'_> {
     }
 
     fn number(&mut self) -> Result<u32, Refusal> {
+        let start = self.at;
         let mut value = 0;
         for group in 0..self.limits.number_bytes {
             let byte = self.byte()?;
             value |= u32::from(byte & 0x7f) << (7 * group);
             if byte < 0x80 {
-                return Ok(value);
+                let taken = (self.limits.rule)(&self.bytes[start..self.at]);
+                return if taken { Ok(value) } else { Err(Refusal::LongNumber) };
             }
         }
         Err(Refusal::LongNumber)

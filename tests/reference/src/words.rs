@@ -37,8 +37,7 @@ pub fn print_words(input: &[u8]) -> Vec<u8> {
 pub fn print_rows(rows: &Result<Vec<usize>, Refusal>, entries: usize) -> Vec<u8> {
     let mut buffer = vec![0; entries.min(MAX_ENTRIES)];
     match hand_out_rows(rows, &mut buffer) {
-        Err(Refusal::Loop(step)) => format!("refused 11 {step}\n").into_bytes(),
-        Err(refusal) => format!("refused {}\n", refusal.number()).into_bytes(),
+        Err(refusal) => refusal.line(),
         Ok(_) => {
             let used = rows.as_ref().map_or(0, Vec::len);
             let fields: String = buffer[..used].iter().map(|row| format!(" {row}")).collect();

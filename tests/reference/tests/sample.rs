@@ -44,7 +44,7 @@ fn starred_cases() {
         (&[1, 0, 0], "chart 0 0 0 0 0\n"),
         (&[], "refused 1\n"),
         (&[2], "refused 1\n"),
-        (&[0x81, 0, 0, 0], "chart 0 0 0 0 0\n"),
+        (&[0x81, 0, 0, 0], "refused 2\n"),
         (&[0x80, 0x80, 0x80], "refused 2\n"),
         (&[1, 0x40], "refused 1\n"),
         (&[1, 0x41], "refused 4\n"),

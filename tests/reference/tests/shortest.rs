@@ -6,13 +6,13 @@ use reference::calls;
 use reference::listing::print_chart;
 use reference::refusal::Refusal;
 use reference::shortest::{said, shortest, Said};
-use reference::table::{read_table, Edge, Kind, TableEdge};
+use reference::table::{read_stored, read_table, Edge, Kind, TableEdge};
 
 mod stored;
 
-/// The shortest form of a table that is accepted.
+/// The shortest form of a stored table that is accepted.
 fn shortest_of(bytes: &[u8]) -> Vec<u8> {
-    shortest(&said(bytes, &read_table(bytes).unwrap()))
+    shortest(&said(bytes, &read_stored(bytes).unwrap()))
 }
 
 #[test]
@@ -57,7 +57,7 @@ impl Spellings {
 
     /// Bytes that are not cut short are no start of a longer table.
     fn extend(&mut self, bytes: &mut Vec<u8>) {
-        match read_table(bytes) {
+        match read_stored(bytes) {
             Ok(table) => self.tables.entry(said(bytes, &table)).or_default().push(bytes.clone()),
             Err(Refusal::CutShort) if bytes.len() < self.longest => {
                 for letter in self.letters.clone() {
@@ -116,14 +116,21 @@ fn the_longest_shortest_form() {
 
 #[test]
 fn answers_and_buffers() {
-    let table = [0x82, 0, 1, 0x80, 0, 1, 0x41, 0];
+    let stored = [0x82, 0, 1, 0x80, 0, 1, 0x41, 0];
+    let table = [2, 1, 0, 1, 0x41, 0];
     let written = [1, 1, 0, 1, 0x41, 0];
     let mut buffer = [9; 8];
     for short in 0..6 {
         assert_eq!(calls::write(&table, &mut buffer[..short]), 13);
+        assert_eq!(calls::convert(&stored, &mut buffer[..short]), 13);
         assert_eq!(calls::write(&[1, 0x41], &mut buffer[..short]), 4);
+        assert_eq!(calls::convert(&[1, 0x41], &mut buffer[..short]), 4);
     }
+    assert_eq!(calls::write(&stored, &mut buffer), 2);
     assert_eq!(buffer, [9; 8]);
+    assert_eq!(calls::convert(&stored, &mut buffer[..6]), 6 << 8);
+    assert_eq!(buffer[..6], written);
+    buffer.fill(9);
     assert_eq!(calls::write(&table, &mut buffer[..6]), 6 << 8);
     assert_eq!(buffer[..6], written);
     assert_eq!(calls::write(&written, &mut buffer), 6 << 8);
@@ -154,10 +161,15 @@ fn stored_tables() {
 
 #[test]
 fn stored_shortest_forms() {
+    check_stored(include_str!("../../writing.txt"), calls::write);
+    check_stored(include_str!("../../convert.txt"), calls::convert);
+}
+
+fn check_stored(lines: &str, write: fn(&[u8], &mut [u8]) -> u64) {
     let mut met = 0;
-    for (table, due) in stored::read_lines(include_str!("../../writing.txt")) {
+    for (table, due) in stored::read_lines(lines) {
         let mut buffer = [0; 2436];
-        let answer = calls::write(&table, &mut buffer);
+        let answer = write(&table, &mut buffer);
         let bytes = buffer[..(answer >> 8) as usize].iter().map(|byte| format!(" {byte:02X}"));
         let line = if answer & 0xff == 0 {
             format!("writes{}\n", bytes.collect::<String>())

@@ -145,8 +145,9 @@ fn two_steps(edition: u8, edges: &[u8]) -> Vec<u8> {
 fn firmness_is_judged_behind_the_weight() {
     let refusal = |edition, edges: &[u8]| read_table(&two_steps(edition, edges)).err().map_or(0, Refusal::number);
     assert_eq!(refusal(2, &[1, 0, 1, 1, 1, 0]), 0);
-    assert_eq!(refusal(2, &[1, 0, 1, 1, 1, 0x81, 0x80, 0]), 0);
+    assert_eq!(refusal(2, &[1, 0, 1, 1, 1, 1]), 0);
     assert_eq!(refusal(2, &[1, 0, 1, 1, 1, 2]), 15);
+    assert_eq!(refusal(2, &[1, 0, 1, 1, 1, 0x82, 0]), 2);
     assert_eq!(refusal(2, &[1, 0, 1, 1, 1, 0x81, 1]), 15);
     assert_eq!(refusal(2, &[1, 0, 1, 1, 1, 0x82, 0x80, 0x80]), 2);
     assert_eq!(refusal(2, &[1, 0, 1, 1, 0x80, 2, 2]), 6);

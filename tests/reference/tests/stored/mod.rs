@@ -2,7 +2,9 @@
 
 /// Each table with what `chart` prints for it.
 pub fn charts() -> Vec<(Vec<u8>, String)> {
-    read_lines(&[include_str!("../../../chart.txt"), include_str!("../../../soft.txt")].concat())
+    let files =
+        [include_str!("../../../chart.txt"), include_str!("../../../soft.txt"), include_str!("../../../forms.txt")];
+    read_lines(&files.concat())
 }
 
 /// Tables with the lines that are due.
