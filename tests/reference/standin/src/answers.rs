@@ -17,11 +17,11 @@ pub fn counts(table: &[u8]) -> u64 {
     if on("table-changed") && !table.is_empty() {
         unsafe { (table.as_ptr() as *mut u8).write_volatile(table[0] ^ 1) };
     }
-    calls::pack(calls::counts(&read_leniently(table, "counts-no-15")))
+    calls::pack(calls::counts(&read_leniently(table, on("old-rule-counts"), "counts-no-15")))
 }
 
 pub fn name(table: &[u8], step: usize) -> u64 {
-    let read = read_leniently(table, "name-no-15");
+    let read = read_leniently(table, on("old-rule-name"), "name-no-15");
     if on("name-14-first") && step >= 64 {
         return 14;
     }
@@ -31,7 +31,7 @@ pub fn name(table: &[u8], step: usize) -> u64 {
 }
 
 pub fn rows(table: &[u8], buffer: &mut [u8]) -> u64 {
-    let rows = read(table).and_then(|table| {
+    let rows = read(table, on("old-rule-rows")).and_then(|table| {
         if on("short-first") && buffer.len() < table.steps.len() {
             return Err(Refusal::ShortBuffer);
         }
@@ -74,7 +74,7 @@ fn hand_out_rows(rows: &Result<Vec<usize>, Refusal>, buffer: &mut [u8]) -> Resul
 }
 
 pub fn chart(table: &[u8], rows: &mut [u8], order: &mut [u16]) -> u64 {
-    let chart = read(table).and_then(|table| {
+    let chart = read(table, on("old-rule-chart")).and_then(|table| {
         let drawn = draw(&table);
         let few = rows.len() < table.steps.len();
         match drawn {
@@ -117,12 +117,23 @@ fn hand_out_chart(chart: Result<Chart, Refusal>, rows: &mut [u8], order: &mut [u
 const EMPTY: usize = 3;
 /// No shortest form has more.
 const MOST: usize = 2436;
+/// No stored table has more.
+const MOST_STORED: usize = 4489;
 
 pub fn write(table: &[u8], buffer: &mut [u8]) -> u64 {
+    write_read(table, on("old-rule-write"), buffer)
+}
+
+pub fn convert(table: &[u8], buffer: &mut [u8]) -> u64 {
+    let looked_at = if on("convert-2436-read") { table.len().min(MOST) } else { table.len() };
+    write_read(&table[..looked_at], !on("convert-new-rule"), buffer)
+}
+
+fn write_read(table: &[u8], stored: bool, buffer: &mut [u8]) -> u64 {
     if on("write-13-first") && buffer.len() < EMPTY {
         return 13;
     }
-    let written = shortest(table);
+    let written = shortest(table, stored);
     if on("write-refused-cleared") && written.is_err() {
         buffer.fill(0);
     }
@@ -131,7 +142,12 @@ pub fn write(table: &[u8], buffer: &mut [u8]) -> u64 {
 
 fn hand_out_written(table_len: usize, written: &[u8], buffer: &mut [u8]) -> Result<u64, Refusal> {
     let (used, room) = (written.len(), buffer.len());
-    let wants = [("write-13-exact", used + 1), ("write-13-by-table", table_len), ("write-13-by-most", MOST)];
+    let wants = [
+        ("write-13-exact", used + 1),
+        ("write-13-by-table", table_len),
+        ("write-13-by-most", MOST),
+        ("convert-13-by-most", MOST_STORED),
+    ];
     if wants.iter().any(|&(fault, wanted)| on(fault) && room < wanted) || on("write-13-largest") && used == MOST {
         return Err(Refusal::ShortBuffer);
     }

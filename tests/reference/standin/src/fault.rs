@@ -16,3 +16,13 @@ fn chosen() -> &'static str {
 pub fn on(name: &str) -> bool {
     chosen() == name
 }
+
+/// The variant whose name has these two parts.
+pub fn on_with(start: &str, rest: &str) -> bool {
+    chosen().strip_prefix(start) == Some(rest)
+}
+
+/// Whether some variant is on whose name starts so.
+pub fn any_on(start: &str) -> bool {
+    chosen().starts_with(start)
+}

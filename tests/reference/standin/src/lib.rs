@@ -4,6 +4,7 @@
 mod answers;
 pub mod fault;
 pub mod wrong_chart;
+mod wrong_forms;
 mod wrong_order;
 mod wrong_rows;
 mod wrong_soft;
@@ -56,4 +57,9 @@ pub unsafe extern "C" fn yuvatondro_chart(
 #[no_mangle]
 pub unsafe extern "C" fn yuvatondro_write(table: *const u8, table_len: usize, out: *mut u8, out_len: usize) -> u64 {
     unsafe { answers::write(from_raw_parts(table, table_len), from_raw_parts_mut(out, out_len)) }
+}
+
+#[no_mangle]
+pub unsafe extern "C" fn yuvatondro_convert(table: *const u8, table_len: usize, out: *mut u8, out_len: usize) -> u64 {
+    unsafe { answers::convert(from_raw_parts(table, table_len), from_raw_parts_mut(out, out_len)) }
 }

@@ -3,7 +3,7 @@
 use reference::table::Kind;
 use reference::writer::{bytes_of, fields_of, short, Draft, Field};
 
-use crate::fault::on;
+use crate::fault::{on, on_with};
 
 /// What a field of a table is.
 #[derive(Clone, Copy, PartialEq)]
@@ -42,6 +42,11 @@ fn roles_of(draft: &Draft) -> Vec<Role> {
     roles
 }
 
+/// The edition in which a table came, in any form.
+pub fn in_edition_2(bytes: &[u8]) -> bool {
+    bytes[0] & 0x7f == 2
+}
+
 /// The bytes that each field took in the table as it came.
 pub fn widths(bytes: &[u8], draft: &Draft) -> Vec<(Role, u32)> {
     let mut rest = bytes;
@@ -54,20 +59,20 @@ pub fn widths(bytes: &[u8], draft: &Draft) -> Vec<(Role, u32)> {
     roles_of(draft).into_iter().map(&mut took).collect()
 }
 
-/// Numbers that keep the form in which they came.
-const LEFT_LONG: &[(&str, Role)] = &[
-    ("write-long-edition", Role::Edition),
-    ("write-long-steps", Role::StepCount),
-    ("write-long-kind", Role::Kind),
-    ("write-long-tolerance", Role::Tolerance),
-    ("write-long-minutes", Role::Minutes),
-    ("write-long-length", Role::Length),
-    ("write-long-edges", Role::EdgeCount),
-    ("write-long-from", Role::From),
-    ("write-long-to", Role::To),
-    ("write-long-gap", Role::Gap),
-    ("write-long-weight", Role::Weight),
-    ("write-long-firmness", Role::Firmness),
+/// What the numbers of a table are called in the names of variants.
+pub const NUMBERS: &[(&str, Role)] = &[
+    ("edition", Role::Edition),
+    ("steps", Role::StepCount),
+    ("kind", Role::Kind),
+    ("tolerance", Role::Tolerance),
+    ("minutes", Role::Minutes),
+    ("length", Role::Length),
+    ("edges", Role::EdgeCount),
+    ("from", Role::From),
+    ("to", Role::To),
+    ("gap", Role::Gap),
+    ("weight", Role::Weight),
+    ("firmness", Role::Firmness),
 ];
 
 /// Numbers that are spelled wrongly.
@@ -133,13 +138,13 @@ pub fn spell(draft: &Draft, came: &[(Role, u32)]) -> Vec<u8> {
 /// A field that came in so many bytes.
 fn leave_long(field: &mut Field, role: Role, came: u32, last: bool) {
     let Field::Number { value, width } = field else { return };
-    let kept = LEFT_LONG.iter().any(|&(fault, long)| on(fault) && long == role)
-        || on("write-long-last") && last
-        || on("write-long-two") && came == 2
-        || on("write-long-zero") && came == 2 && *value == 0;
+    let kept = NUMBERS.iter().any(|&(name, long)| long == role && on_with("convert-long-", name))
+        || on("convert-long-last") && last
+        || on("convert-long-two") && came == 2
+        || on("convert-long-zero") && came == 2 && *value == 0;
     if kept {
         *width = came;
-    } else if on("write-long-three") && came == 3 {
+    } else if on("convert-long-three") && came == 3 {
         *width = 2;
     }
 }

@@ -6,53 +6,72 @@ use reference::soft::must_edges;
 use reference::table::{read_within, Limits, Table, LIMITS};
 
 use crate::fault::on;
+use crate::wrong_forms;
 
-pub fn read(bytes: &[u8]) -> Result<Table, Refusal> {
-    let limits = limits();
+/// By the old rule for a stored table, else by today's.
+pub fn read(bytes: &[u8], stored: bool) -> Result<Table, Refusal> {
+    let right = wrong_forms::limits(stored);
+    let read = read_wrongly(bytes, &right);
+    if stored {
+        read
+    } else {
+        wrong_forms::judge(bytes, read)
+    }
+}
+
+/// The limits are right but for the forms of numbers.
+fn read_wrongly(bytes: &[u8], right: &Limits) -> Result<Table, Refusal> {
     if on("overread") && !bytes.is_empty() {
         std::hint::black_box(unsafe { bytes.as_ptr().add(bytes.len()).read_volatile() });
     }
-    match read_within(bytes, &limits) {
-        Err(Refusal::SpareBytes) if on("spare-accepted") => Ok(accepted_start(bytes)),
+    match read_within(bytes, &altered(right)) {
+        Err(Refusal::SpareBytes) if on("spare-accepted") => Ok(accepted_start(bytes, right)),
         Err(Refusal::SpareBytes) if on("spare-after-loop") => {
-            let table = accepted_start(bytes);
+            let table = accepted_start(bytes, right);
             match lowest_on_loop(table.steps.len(), &must_edges(&table.edges)) {
                 Some(step) => Err(Refusal::Loop(step)),
                 None => Err(Refusal::SpareBytes),
             }
         }
         Err(Refusal::CutShort) if on("cut-as-10") => Err(Refusal::SpareBytes),
-        Err(Refusal::BadEnd) if on("bad-end-late") && shows_at_end(bytes) => Err(Refusal::CutShort),
+        Err(Refusal::BadEnd) if on("bad-end-late") && shows_at_end(bytes, right) => Err(Refusal::CutShort),
         Err(Refusal::BadFirmness) if on("firmness-as-6") => Err(Refusal::OutOfRange),
-        Err(Refusal::BadFirmness) if on("firmness-late") => read_any_firmness(bytes).and(Err(Refusal::BadFirmness)),
-        Err(Refusal::OutOfRange) if on("firmness-before-weight") && bad_firmness_next(bytes) => {
+        Err(Refusal::BadFirmness) if on("firmness-late") => {
+            read_any_firmness(bytes, right).and(Err(Refusal::BadFirmness))
+        }
+        Err(Refusal::OutOfRange) if on("firmness-before-weight") && bad_firmness_next(bytes, right) => {
             Err(Refusal::BadFirmness)
         }
         Err(Refusal::CutShort) if on("edition-2-of-four") && bytes.first() == Some(&2) => {
-            read_within(&[&[1], &bytes[1..]].concat(), &LIMITS).or(Err(Refusal::CutShort))
+            read_within(&[&[1], &bytes[1..]].concat(), right).or(Err(Refusal::CutShort))
         }
         read => read,
     }
 }
 
 /// The reader of one call that does not judge firmness, where this fault is on.
-pub fn read_leniently(bytes: &[u8], fault: &str) -> Result<Table, Refusal> {
-    match read(bytes) {
-        Err(Refusal::BadFirmness) if on(fault) => read_any_firmness(bytes),
+pub fn read_leniently(bytes: &[u8], stored: bool, fault: &str) -> Result<Table, Refusal> {
+    match read(bytes, stored) {
+        Err(Refusal::BadFirmness) if on(fault) => read_any_firmness(bytes, &wrong_forms::limits(stored)),
         read => read,
     }
 }
 
-fn read_any_firmness(bytes: &[u8]) -> Result<Table, Refusal> {
-    read_within(bytes, &Limits { firmness: 0..=u32::MAX, ..LIMITS })
+fn read_any_firmness(bytes: &[u8], right: &Limits) -> Result<Table, Refusal> {
+    read_within(bytes, &Limits { firmness: 0..=u32::MAX, ..right.clone() })
 }
 
 /// Whether what is out of range is a weight, with a bad firmness right behind it.
-fn bad_firmness_next(bytes: &[u8]) -> bool {
-    let fault_end = (0..bytes.len()).find(|&len| read_within(&bytes[..len], &LIMITS) != Err(Refusal::CutShort));
-    let end = fault_end.map_or(bytes.len(), |len| bytes.len().min(len + LIMITS.number_bytes as usize));
-    let any_weight = Limits { weight: 0..=u32::MAX, ..LIMITS };
+fn bad_firmness_next(bytes: &[u8], right: &Limits) -> bool {
+    let end = bytes.len().min(fault_end(bytes, right) + LIMITS.number_bytes as usize);
+    let any_weight = Limits { weight: 0..=u32::MAX, ..right.clone() };
     read_within(&bytes[..end], &any_weight) == Err(Refusal::BadFirmness)
+}
+
+/// Up to where the bytes are looked at: the end of the number or name byte at fault.
+pub fn fault_end(bytes: &[u8], right: &Limits) -> usize {
+    let shown = |&len: &usize| read_within(&bytes[..len], right) != Err(Refusal::CutShort);
+    (0..bytes.len()).find(shown).unwrap_or(bytes.len())
 }
 
 /// The limit that a variant alters.
@@ -83,8 +102,8 @@ const ALTERED: &[(&str, fn(&mut Limits))] = &[
     ("numbers-two-bytes", |limits| limits.number_bytes = 2),
 ];
 
-fn limits() -> Limits {
-    let mut limits = LIMITS;
+fn altered(right: &Limits) -> Limits {
+    let mut limits = right.clone();
     for (_, alter) in ALTERED.iter().filter(|(fault, _)| on(fault)) {
         alter(&mut limits);
     }
@@ -92,11 +111,11 @@ fn limits() -> Limits {
 }
 
 /// The table that the bytes start with.
-fn accepted_start(bytes: &[u8]) -> Table {
-    (0..bytes.len()).find_map(|len| read_within(&bytes[..len], &LIMITS).ok()).unwrap()
+fn accepted_start(bytes: &[u8], right: &Limits) -> Table {
+    (0..bytes.len()).find_map(|len| read_within(&bytes[..len], right).ok()).unwrap()
 }
 
 /// Whether the fault shows only with the last byte.
-fn shows_at_end(bytes: &[u8]) -> bool {
-    read_within(&bytes[..bytes.len() - 1], &LIMITS) == Err(Refusal::CutShort)
+fn shows_at_end(bytes: &[u8], right: &Limits) -> bool {
+    read_within(&bytes[..bytes.len() - 1], right) == Err(Refusal::CutShort)
 }

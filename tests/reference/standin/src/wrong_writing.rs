@@ -6,24 +6,29 @@ use reference::refusal::Refusal;
 use reference::rows::find_rows;
 use reference::shortest::{draft_of, said, Said};
 use reference::soft::{must_edges, settle};
-use reference::table::{Kind, Table, TableEdge, LIMITS};
+use reference::table::{read_table, Kind, Table, TableEdge, LIMITS};
 
 use crate::fault::on;
-use crate::wrong_spelling::{spell, widths};
+use crate::wrong_spelling::{in_edition_2, spell, widths};
 use crate::wrong_table::read_leniently;
 
-pub fn shortest(bytes: &[u8]) -> Result<Vec<u8>, Refusal> {
-    let table = read_leniently(bytes, "write-no-15")?;
+/// Of a table that is read by the old rule if it is a stored one.
+pub fn shortest(bytes: &[u8], stored: bool) -> Result<Vec<u8>, Refusal> {
+    let table = read_leniently(bytes, stored, "write-no-15")?;
     judge_too_much(&table)?;
     let mut said = said(bytes, &table);
     let has_soft = said.edges.iter().any(|edge| edge.soft);
-    if on("write-copy") || on("write-copy-soft") && has_soft || on("write-copy-edition-1") && bytes[0] == 1 {
+    let as_it_came = on("write-copy")
+        || on("convert-copy-soft") && has_soft
+        || on("convert-copy-edition-1") && bytes[0] == 1
+        || on("convert-copy-unless-long") && read_table(bytes).is_ok();
+    if as_it_came {
         return Ok(bytes.to_vec());
     }
     for (_, spoil) in SPOILED.iter().filter(|(fault, _)| on(fault)) {
         spoil(&mut said);
     }
-    let came_in_2 = bytes[0] & 0x7f == 2;
+    let came_in_2 = in_edition_2(bytes);
     let edition_2 = said.edges.iter().any(|edge| edge.soft)
         || on("write-edition-2-always")
         || on("write-edition-2-kept") && came_in_2

@@ -1,24 +1,26 @@
 //! The program `chart` of the stand-in, with its wrong variants.
 
-use std::io::{Read, Write};
-
 use host::fault::on;
 use host::wrong_chart::SAMPLE;
 use reference::chart::draw_chart;
-use reference::listing::{list_chart, print_chart, MAX_INPUT};
+use reference::convert::convert_table;
+use reference::listing::{list_chart, print_chart};
 use reference::order::{count_crossings, run_pass, start_order, PASSES};
 use reference::points::Layout;
+use reference::program::{run, MAX_INPUT};
 use reference::table::read_table;
 
 fn main() {
-    let mut input = Vec::new();
-    std::io::stdin().read_to_end(&mut input).expect("standard input can be read");
-    std::io::stdout().write_all(&spoil(&input)).expect("standard output can be written");
+    run(|input| spoil(&input));
 }
 
 fn spoil(input: &[u8]) -> Vec<u8> {
     if on("print-sample-always") {
         return print_chart(SAMPLE);
+    }
+    if on("print-old-rule") {
+        let converted = convert_table(input);
+        return if converted.starts_with(b"refused") { converted } else { print_chart(&converted) };
     }
     let right = print_chart(input);
     let text = String::from_utf8_lossy(&right).into_owned();
@@ -39,6 +41,7 @@ fn spoil(input: &[u8]) -> Vec<u8> {
         for (point, edge) in chart.layout.edge_of.iter_mut().enumerate() {
             *edge = edge.map(|_| point);
         }
+        chart.turned = vec![false; chart.layout.edge_of.len()];
     }
     if on("print-caret-kept") {
         chart.turned = table.edges.iter().map(|edge| edge.soft).collect();

@@ -1,8 +1,7 @@
 //! The program `records` of the stand-in, with its wrong variants.
 
-use std::io::{Read, Write};
-
 use host::fault::on;
+use reference::program::run;
 use reference::records::rows_of_records;
 use reference::words::{print_rows, read_words, MAX_ENTRIES};
 
@@ -12,9 +11,7 @@ const HEAD: usize = 16;
 const MAX_EDGES: usize = 192;
 
 fn main() {
-    let mut input = Vec::new();
-    std::io::stdin().read_to_end(&mut input).expect("standard input can be read");
-    std::io::stdout().write_all(&spoil(input)).expect("standard output can be written");
+    run(spoil);
 }
 
 fn spoil(mut input: Vec<u8>) -> Vec<u8> {
