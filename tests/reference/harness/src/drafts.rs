@@ -4,7 +4,7 @@ use reference::random::Random;
 use reference::records::Record;
 use reference::soft::turn;
 use reference::table::{Edge, Kind};
-use reference::writer::{write_widened, Draft};
+use reference::writer::{bytes_of, fields_of, widen, write_widened, Draft, Field};
 
 use crate::shapes::{self, Shape};
 
@@ -99,6 +99,19 @@ pub fn largest_draft(random: &mut Random) -> Draft {
 
 pub fn with_long_forms(random: &mut Random, draft: &Draft) -> Vec<u8> {
     write_widened(draft, || random.between(1, 3) as u32)
+}
+
+/// One number in three bytes, the others in their fewest.
+pub fn with_one_long_form(random: &mut Random, draft: &Draft) -> Vec<u8> {
+    let mut fields = fields_of(draft);
+    let at = random.pick(&number_places(&fields));
+    widen(&mut fields[at..=at], || 3);
+    bytes_of(&fields)
+}
+
+/// The fields that are numbers.
+pub fn number_places(fields: &[Field]) -> Vec<usize> {
+    (0..fields.len()).filter(|&at| matches!(fields[at], Field::Number { .. })).collect()
 }
 
 /// The draft in edition 2, with so many tenths of its edges soft, and some of these the other way round. Must edges

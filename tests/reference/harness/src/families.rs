@@ -2,6 +2,7 @@
 
 mod buffers;
 mod bytes;
+mod forms;
 mod graphs;
 mod limits;
 mod loops;
@@ -37,6 +38,9 @@ pub const FAMILIES: &[Family] = &[
     fixed("stated cases", 1, limits::stated_cases),
     fixed("limits", 1, limits::field_limits),
     fixed("soft limits", 1, limits::soft_limits),
+    fixed("long forms in place", 1, forms::each_place),
+    fixed("long forms of values", 1, forms::each_value),
+    fixed("long forms beside faults", 1, forms::beside_faults),
     fixed("empty spellings", 1, shortest::empty_spellings),
     fixed("single long forms", 1, shortest::single_long_forms),
     fixed("written values", 1, shortest::values),
@@ -62,13 +66,14 @@ pub const FAMILIES: &[Family] = &[
     endless("record limits", 40, records::limits),
     endless("record loops", 1000, records::loops),
     endless("spare bytes", 500, bytes::spare),
-    endless("long forms", 1500, bytes::long_forms),
-    endless("soft long forms", 1500, bytes::soft_long_forms),
+    endless("long forms", 1000, bytes::long_forms),
+    endless("soft long forms", 1000, bytes::soft_long_forms),
     endless("spellings", 3000, shortest::spellings),
     endless("writing buffers", 300, shortest::buffers),
     endless("largest spellings", 60, shortest::largest),
-    endless("long input", 60, bytes::long_input),
-    endless("long soft input", 30, bytes::long_soft_input),
+    endless("conversions", 400, forms::conversions),
+    endless("long input", 90, bytes::long_input),
+    endless("long soft input", 45, bytes::long_soft_input),
     endless("two spoiled fields", 3000, spoiled::two_fields),
     endless("two soft fields", 3000, spoiled::two_soft_fields),
     endless("mutated", 6000, bytes::mutated),
@@ -96,8 +101,8 @@ pub const FAMILIES: &[Family] = &[
     endless("half turned", 150, soft::half_turned),
     endless("cut", 300, bytes::cut_everywhere),
     endless("cut soft", 100, bytes::cut_soft),
-    endless("spoiled fields", 60, spoiled::each_field),
-    endless("spoiled soft fields", 25, spoiled::each_soft_field),
+    endless("spoiled fields", 25, spoiled::each_field),
+    endless("spoiled soft fields", 12, spoiled::each_soft_field),
 ];
 
 /// A generator of its own for each group, by the family's name, so that a family keeps its cases when others come.

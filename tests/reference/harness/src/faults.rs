@@ -7,6 +7,7 @@ use crate::watch;
 const LIST: &str = include_str!("../../standin/faults.txt");
 const CHART: &str = concat!(env!("CARGO_MANIFEST_DIR"), "/../target/release/standin_chart");
 const RECORDS: &str = concat!(env!("CARGO_MANIFEST_DIR"), "/../target/release/standin_records");
+const CONVERT: &str = concat!(env!("CARGO_MANIFEST_DIR"), "/../target/release/standin_convert");
 /// Seconds until a call counts as not coming back.
 const PATIENCE: &str = "5";
 
@@ -36,7 +37,7 @@ pub fn run(only: &str) -> i32 {
 }
 
 /// The options of the runs that have to catch a variant. Three calls hand out rows, and wrong rows are to be caught in
-/// each; two of them have soft edges.
+/// each; two of them have soft edges. Two calls write the shortest form, one of them of stored tables.
 fn trials(fault: &str) -> Vec<Vec<&'static str>> {
     if fault.starts_with("print") {
         return vec![vec!["--calls", "counts", "--program", CHART, "--every", "40"]];
@@ -47,17 +48,27 @@ fn trials(fault: &str) -> Vec<Vec<&'static str>> {
     if fault.starts_with("records") {
         return vec![vec!["--calls", "records"]];
     }
+    if fault.starts_with("output") {
+        return vec![vec!["--calls", "convert", "--convert-program", CONVERT, "--every", "40"]];
+    }
+    if fault.starts_with("convert") {
+        return vec![vec!["--calls", "convert"]];
+    }
     if fault.starts_with("write-") {
-        return vec![vec!["--calls", "write"]];
+        return each_alone(&["write", "convert"]);
     }
     if fault.starts_with("soft") {
-        return ["rows", "chart"].iter().map(|&call| vec!["--calls", call]).collect();
+        return each_alone(&["rows", "chart"]);
     }
     let in_all_rows = fault.starts_with("rows") && fault != "rows-judge-12";
     if in_all_rows || ["never-written", "refuse-11-always"].contains(&fault) {
-        return ["rows", "records", "chart"].iter().map(|&call| vec!["--calls", call]).collect();
+        return each_alone(&["rows", "records", "chart"]);
     }
     vec![Vec::new()]
+}
+
+fn each_alone(calls: &[&'static str]) -> Vec<Vec<&'static str>> {
+    calls.iter().map(|&call| vec!["--calls", call]).collect()
 }
 
 /// What the comparison says of it, cut to a line. A crash of the harness itself catches nothing.

@@ -27,22 +27,33 @@ mod linked {
         ) -> u64;
         #[cfg(host_write)]
         pub fn yuvatondro_write(table: *const u8, table_len: usize, out: *mut u8, out_len: usize) -> u64;
+        #[cfg(host_convert)]
+        pub fn yuvatondro_convert(table: *const u8, table_len: usize, out: *mut u8, out_len: usize) -> u64;
     }
 }
 
-pub const CALLS: [&str; 6] = ["counts", "name", "rows", "records", "chart", "write"];
+pub const CALLS: [&str; 7] = ["counts", "name", "rows", "records", "chart", "write", "convert"];
 pub const COUNTS: usize = 0;
 pub const NAME: usize = 1;
 pub const ROWS: usize = 2;
 pub const RECORDS: usize = 3;
 pub const CHART: usize = 4;
 pub const WRITE: usize = 5;
+pub const CONVERT: usize = 6;
 
 /// Some of the calls.
 pub type Calls = [bool; CALLS.len()];
 
 pub fn exported() -> Calls {
-    [cfg!(host_counts), cfg!(host_name), cfg!(host_rows), cfg!(host_records), cfg!(host_chart), cfg!(host_write)]
+    [
+        cfg!(host_counts),
+        cfg!(host_name),
+        cfg!(host_rows),
+        cfg!(host_records),
+        cfg!(host_chart),
+        cfg!(host_write),
+        cfg!(host_convert),
+    ]
 }
 
 /// A lent stretch as C hands it over.
@@ -94,5 +105,13 @@ pub fn write(table: Bytes, out: BytesMut) -> u64 {
     #[cfg(host_write)]
     return unsafe { linked::yuvatondro_write(table.0, table.1, out.0, out.1) };
     #[cfg(not(host_write))]
+    unreachable!()
+}
+
+#[allow(unused_variables)]
+pub fn convert(table: Bytes, out: BytesMut) -> u64 {
+    #[cfg(host_convert)]
+    return unsafe { linked::yuvatondro_convert(table.0, table.1, out.0, out.1) };
+    #[cfg(not(host_convert))]
     unreachable!()
 }

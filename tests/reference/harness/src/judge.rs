@@ -29,6 +29,7 @@ pub struct Judge {
     place: (&'static str, usize),
     tables: u64,
     lists: u64,
+    stored: u64,
     random: Random,
     table: Arena,
     numbers: Arena,
@@ -47,6 +48,7 @@ impl Judge {
             place: ("", 0),
             tables: 0,
             lists: 0,
+            stored: 0,
             random: Random::new(0),
             table: Arena::new(16),
             numbers: Arena::new(32),
@@ -93,7 +95,7 @@ impl Judge {
             let chart = table.as_ref().map_err(|&refusal| refusal).and_then(draw_chart);
             self.judge_chart(bytes, &chart);
         }
-        self.judge_write(bytes, &table);
+        self.judge_written(bytes);
         self.sample_listing(bytes);
     }
 
@@ -112,7 +114,7 @@ impl Judge {
 
     /// Rows and chart with every pair of these buffer lengths, as differences from what is needed; writing with each.
     pub fn judge_buffers(&mut self, bytes: &[u8], offsets: &[isize]) {
-        self.judge_write_buffers(bytes, offsets);
+        self.judge_written_buffers(bytes, offsets);
         let table = read_table(bytes);
         let chart = table.as_ref().map_err(|&refusal| refusal).and_then(draw_chart);
         let rows = table.as_ref().map_err(|&refusal| refusal).and_then(rows_of_table);

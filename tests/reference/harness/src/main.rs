@@ -15,6 +15,7 @@ mod watch;
 use std::time::{Duration, Instant};
 
 use families::{group_random, FAMILIES};
+use host::{CHART, CONVERT};
 use judge::Judge;
 use options::Options;
 
@@ -50,15 +51,20 @@ fn run_group(judge: &mut Judge, options: &Options, family: usize, group: usize) 
 
 fn run_selection(judge: &mut Judge, options: &Options) {
     for (index, family) in FAMILIES.iter().enumerate().filter(|(_, family)| options.wants(family.name)) {
-        let (cases, listings, began) = (judge.tally.cases, judge.tally.listings(), Instant::now());
+        let (counted, began) = (count(judge), Instant::now());
         let groups = options.group.map_or(0..family.groups, |group| group..group + 1);
         for group in groups.step_by(options.share) {
             run_group(judge, options, index, group);
         }
-        let (cases, listings) = (judge.tally.cases - cases, judge.tally.listings() - listings);
+        let [cases, listings, converted] = [0, 1, 2].map(|at| count(judge)[at] - counted[at]);
         let (name, seconds) = (family.name, began.elapsed().as_secs_f64());
-        println!("{name:20} {cases:8} cases, {listings:6} of them listings {seconds:6.1} s");
+        println!("{name:23} {cases:8} cases, of them {listings:6} of chart, {converted:6} of convert {seconds:6.1} s");
     }
+}
+
+/// Cases so far, and those of them that are outputs of the programs `chart` and `convert`.
+fn count(judge: &Judge) -> [u64; 3] {
+    [judge.tally.cases, judge.tally.outputs(CHART), judge.tally.outputs(CONVERT)]
 }
 
 /// New groups, beyond those of the fixed selection and in like proportion, until the time is up.

@@ -3,9 +3,9 @@
 use crate::host::{exported, Calls, CALLS};
 use crate::program::{Program, Programs};
 
-const USAGE: &str = "harness [--calls counts,name,rows,records,chart,write] [--seed N] [--seconds K]
+const USAGE: &str = "harness [--calls counts,name,rows,records,chart,write,convert] [--seed N] [--seconds K]
         [--family NAME] [--group N] [--patience S] [--stop-at-first] [--program PATH]
-        [--records-program PATH] [--every N] [--null-when-empty] [--share N]";
+        [--records-program PATH] [--convert-program PATH] [--every N] [--null-when-empty] [--share N]";
 
 pub struct Options {
     pub calls: Calls,
@@ -20,6 +20,7 @@ pub struct Options {
     pub null_when_empty: bool,
     chart_path: Option<String>,
     records_path: Option<String>,
+    convert_path: Option<String>,
     every: u64,
 }
 
@@ -37,6 +38,7 @@ impl Options {
             null_when_empty: false,
             chart_path: None,
             records_path: None,
+            convert_path: None,
             every: 50,
         };
         let mut words = std::env::args().skip(1);
@@ -54,6 +56,7 @@ impl Options {
                 "--null-when-empty" => options.null_when_empty = true,
                 "--program" => options.chart_path = Some(value()),
                 "--records-program" => options.records_path = Some(value()),
+                "--convert-program" => options.convert_path = Some(value()),
                 "--every" => options.every = read_number(&value()).max(1),
                 _ => stop("an unknown option"),
             }
@@ -67,7 +70,11 @@ impl Options {
 
     pub fn programs(&self) -> Programs {
         let program = |path: &Option<String>| path.clone().map(|path| Program { path, every: self.every });
-        Programs { chart: program(&self.chart_path), records: program(&self.records_path) }
+        Programs {
+            chart: program(&self.chart_path),
+            records: program(&self.records_path),
+            convert: program(&self.convert_path),
+        }
     }
 }
 

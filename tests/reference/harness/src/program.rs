@@ -10,6 +10,7 @@ use crate::watch::CHILD;
 pub struct Programs {
     pub chart: Option<Program>,
     pub records: Option<Program>,
+    pub convert: Option<Program>,
 }
 
 pub struct Program {

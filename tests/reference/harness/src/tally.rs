@@ -5,18 +5,18 @@ use std::time::Duration;
 use reference::chart::Chart;
 use reference::order::PASSES;
 
-use crate::host::CALLS;
+use crate::host::{CALLS, CHART, CONVERT, RECORDS, WRITE};
 
 const REFUSALS: usize = 15;
-/// The refusals that the program gives.
-const PRINTED: [usize; 13] = [1, 2, 3, 4, 5, 6, 7, 8, 9, 10, 11, 12, 15];
+/// The refusals that the program `chart` gives, and those of the program `convert`.
+const LISTED: [usize; 13] = [1, 2, 3, 4, 5, 6, 7, 8, 9, 10, 11, 12, 15];
+const CONVERTED: [usize; 11] = [1, 2, 3, 4, 5, 6, 7, 8, 9, 10, 15];
 
 pub struct Tally {
     pub cases: u64,
     pub differences: u64,
-    pub inputs: u64,
-    /// Listings of the program, by the number of the refusal that is due; charts at 0.
-    by_line: [u64; REFUSALS + 1],
+    /// Outputs of the program of a call, by the number of the refusal that is due; charts and the like at 0.
+    by_output: [[u64; REFUSALS + 1]; CALLS.len()],
     by_call: [u64; CALLS.len()],
     /// Answers due, by the refusal's number; accepted ones at 0.
     by_refusal: [u64; REFUSALS + 1],
@@ -24,8 +24,8 @@ pub struct Tally {
     by_pass: [u64; PASSES + 1],
     /// Charts with turned edges, and how many these are.
     turned: (u64, usize),
-    /// Tables written, and those of them that came in more bytes.
-    written: (u64, u64),
+    /// By the call, tables written, and those of them that came in more bytes.
+    written: [(u64, u64); CALLS.len()],
     /// Time spent in each call.
     spent: [Duration; CALLS.len()],
     /// For each call the longest time, with family and group.
@@ -37,13 +37,12 @@ impl Tally {
         Tally {
             cases: 0,
             differences: 0,
-            inputs: 0,
-            by_line: [0; REFUSALS + 1],
+            by_output: [[0; REFUSALS + 1]; CALLS.len()],
             by_call: [0; CALLS.len()],
             by_refusal: [0; REFUSALS + 1],
             by_pass: [0; PASSES + 1],
             turned: (0, 0),
-            written: (0, 0),
+            written: [(0, 0); CALLS.len()],
             spent: [Duration::ZERO; CALLS.len()],
             slowest: [(Duration::ZERO, "", 0); CALLS.len()],
         }
@@ -65,17 +64,18 @@ impl Tally {
         self.turned.1 += turned;
     }
 
-    pub fn note_written(&mut self, table_len: usize, shortest: usize) {
-        self.written.0 += 1;
-        self.written.1 += u64::from(shortest < table_len);
+    pub fn note_written(&mut self, call: usize, table_len: usize, shortest: usize) {
+        self.written[call].0 += 1;
+        self.written[call].1 += u64::from(shortest < table_len);
     }
 
-    pub fn note_listing(&mut self, refusal: u8) {
-        self.by_line[refusal as usize] += 1;
+    pub fn note_output(&mut self, call: usize, refusal: u8) {
+        self.by_output[call][refusal as usize] += 1;
     }
 
-    pub fn listings(&self) -> u64 {
-        self.by_line.iter().sum()
+    /// Outputs of the program of a call.
+    pub fn outputs(&self, call: usize) -> u64 {
+        self.by_output[call].iter().sum()
     }
 
     pub fn report(&self, took: Duration) {
@@ -87,19 +87,28 @@ impl Tally {
         }
         let refused = list_counts(&self.by_refusal, 1..=REFUSALS);
         println!("calls:    accepted {}; refusals {refused}", self.by_refusal[0]);
-        if self.listings() > 0 {
-            let lines = list_counts(&self.by_line, PRINTED);
-            println!("program:  {} listings, {} of them charts; refusals {lines}", self.listings(), self.by_line[0]);
-        }
-        if self.inputs > 0 {
-            println!("records:  {} inputs of the program", self.inputs);
+        self.report_program(CHART, "listings", "charts", &LISTED);
+        self.report_program(CONVERT, "outputs", "tables", &CONVERTED);
+        if self.outputs(RECORDS) > 0 {
+            println!("records:  {} inputs of the program", self.outputs(RECORDS));
         }
         println!("charts by the pass that gives the order, from the start on: {:?}", self.by_pass);
         println!("charts with turned edges: {}, turned edges in them: {}", self.turned.0, self.turned.1);
-        println!("tables written: {}, of them shorter than they came: {}", self.written.0, self.written.1);
+        for (call, what) in [(WRITE, "written"), (CONVERT, "converted")] {
+            let (tables, shorter) = self.written[call];
+            println!("tables {what}: {tables}, of them shorter than they came: {shorter}");
+        }
         let rate = self.cases as f64 / took.as_secs_f64();
         println!("{:.1} s, {rate:.0} cases a second", took.as_secs_f64());
         println!("{} cases, {} differences", self.cases, self.differences);
+    }
+
+    fn report_program(&self, call: usize, outputs: &str, accepted: &str, refusals: &[usize]) {
+        let (name, all, by_refusal) = (CALLS[call], self.outputs(call), &self.by_output[call]);
+        if all > 0 {
+            let refused = list_counts(by_refusal, refusals.iter().copied());
+            println!("program {name}: {all} {outputs}, {} of them {accepted}; refusals {refused}", by_refusal[0]);
+        }
     }
 }
 

@@ -3,7 +3,9 @@
 use reference::random::Random;
 use reference::writer::{write_table, write_widened, Draft};
 
-use crate::drafts::{any_gaps, any_weights, draft, dress, largest_draft, soften_some, with_long_forms};
+use crate::drafts::{
+    any_gaps, any_weights, draft, dress, largest_draft, soften_some, with_long_forms, with_one_long_form,
+};
 use crate::judge::Judge;
 use crate::shapes;
 
@@ -88,12 +90,19 @@ pub fn spare(judge: &mut Judge, random: &mut Random, _: usize) {
 
 pub fn long_forms(judge: &mut Judge, random: &mut Random, _: usize) {
     let draft = small_draft(random);
-    judge.judge_table(&with_long_forms(random, &draft));
+    judge_spellings(judge, random, &draft);
 }
 
 pub fn soft_long_forms(judge: &mut Judge, random: &mut Random, _: usize) {
     let draft = small_soft_draft(random);
-    judge.judge_table(&with_long_forms(random, &draft));
+    judge_spellings(judge, random, &draft);
+}
+
+/// The same table with long forms all over, with one somewhere, and with none.
+fn judge_spellings(judge: &mut Judge, random: &mut Random, draft: &Draft) {
+    judge.judge_table(&with_long_forms(random, draft));
+    judge.judge_table(&with_one_long_form(random, draft));
+    judge.judge_table(&write_table(draft));
 }
 
 pub fn mutated(judge: &mut Judge, random: &mut Random, _: usize) {
@@ -132,37 +141,42 @@ pub fn random_bytes(judge: &mut Judge, random: &mut Random, _: usize) {
     judge.judge_table(&bytes);
 }
 
-/// Longer than any accepted table, and than the program looks at.
+/// Longer than any accepted table, and than the programs look at.
 pub fn long_input(judge: &mut Judge, random: &mut Random, group: usize) {
-    let bytes = if group % 2 == 0 { some_table(random, small_draft) } else { longest_table(random, false) };
+    let bytes = if group % 3 == 0 { some_table(random, small_draft) } else { longest_table(random, false, group % 2) };
     lengthen(judge, random, bytes);
 }
 
 pub fn long_soft_input(judge: &mut Judge, random: &mut Random, group: usize) {
-    let bytes = if group % 3 == 0 { some_table(random, small_soft_draft) } else { longest_table(random, true) };
+    let bytes =
+        if group % 3 == 0 { some_table(random, small_soft_draft) } else { longest_table(random, true, group % 2) };
     lengthen(judge, random, bytes);
 }
 
 fn lengthen(judge: &mut Judge, random: &mut Random, mut bytes: Vec<u8>) {
-    let len = random.pick(&[3913, 3914, 4489, 4490, 8191, 8192, 8193, 10_000, 20_000]);
+    let len = random.pick(&[2244, 2245, 2436, 2437, 3913, 3914, 4489, 4490, 8191, 8192, 8193, 10_000, 20_000]);
     let filling = random.pick(&[0, 1, 0x41, 0x80]);
     for len in [bytes.len(), bytes.len() + 1, len.max(bytes.len() + 1)] {
         bytes.resize(len, filling);
         judge.judge_table(&bytes);
         judge.compare_listing(&bytes);
+        judge.compare_conversion(&bytes);
     }
 }
 
-/// Bytes of the longest table, by edition.
-const LONGEST_TABLES: [usize; 2] = [3913, 4489];
+/// Bytes of the longest table, by edition: with every number in its fewest bytes, and in three.
+const LONGEST_TABLES: [[usize; 2]; 2] = [[2244, 3913], [2436, 4489]];
 
-/// Every count at its limit and every number in its longest form.
-fn longest_table(random: &mut Random, soft: bool) -> Vec<u8> {
+/// Every count at its limit, and numbers in their fewest bytes or in three.
+fn longest_table(random: &mut Random, soft: bool, in_three: usize) -> Vec<u8> {
     let mut draft = largest_draft(random);
+    for edge in &mut draft.edges {
+        edge.weight |= 0x80;
+    }
     if soft {
         draft = soften_some(random, draft);
     }
-    let bytes = write_widened(&draft, || 3);
-    assert_eq!(bytes.len(), LONGEST_TABLES[usize::from(soft)]);
+    let bytes = write_widened(&draft, || [1, 3][in_three]);
+    assert_eq!(bytes.len(), LONGEST_TABLES[usize::from(soft)][in_three]);
     bytes
 }

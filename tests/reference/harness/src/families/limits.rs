@@ -14,6 +14,19 @@ const TURNED: &[u8] = b"\x02\x04\x02\x1e\x04warm\x00\x04lock\x00\x05sweep\x01\x3
 \x00\x01\x01\x01\x00\x01\x02\x02\x03\x00\x02\x00\x04\x01\x01\
 \x00\x03\x01\x01\x00\x03\x02\x01\x05\x00\x01\x03\x03\x02\x01";
 
+/// More long forms, and the largest number; the last table is a loop.
+const LONG_FORMS: [&[u8]; 9] = [
+    &[0x80, 0],
+    &[0x81, 0x80, 0],
+    &[0xff, 0xff, 0x7f],
+    &[1, 0x80, 0, 0],
+    &[1, 0, 0x80, 0x80, 0],
+    &[0x82, 0x80, 0, 0, 0],
+    &[1, 1, 0x83, 0, 1, 0x41, 0],
+    &[2, 2, 0, 1, 0x41, 0, 1, 0x42, 1, 0, 1, 1, 1, 0x82, 0],
+    &[1, 2, 0, 1, 0x41, 0, 1, 0x42, 2, 0, 1, 1, 1, 0x81, 0, 0, 1, 0x81, 0x80, 0],
+];
+
 pub fn stated_cases(judge: &mut Judge, _: &mut Random, _: usize) {
     let cases: [&[u8]; 23] = [
         SAMPLE,
@@ -40,9 +53,10 @@ pub fn stated_cases(judge: &mut Judge, _: &mut Random, _: usize) {
         &[2, 2, 0, 1, 0x41, 0, 1, 0x42, 1, 0, 1, 1, 1, 2],
         &[2, 2, 0, 1, 0x41, 0, 1, 0x42, 1, 0, 1, 1, 0x80, 2, 2],
     ];
-    for bytes in cases {
+    for bytes in cases.into_iter().chain(LONG_FORMS) {
         judge.judge_table(bytes);
         judge.compare_listing(bytes);
+        judge.compare_conversion(bytes);
         judge.judge_buffers(bytes, &[-100, -1, 0, 1, 100]);
     }
 }

@@ -1,10 +1,10 @@
-//! Tables for the call that writes: every spelling of a table has the same shortest form.
+//! Tables for the calls that write: every spelling of a table has the same shortest form.
 
 use reference::random::Random;
 use reference::table::{Edge, Kind, LIMITS};
 use reference::writer::{bytes_of, fields_of, widen, write_table, write_widened, Draft, Field};
 
-use crate::drafts::{draft, largest_draft, soften_some, with_long_forms};
+use crate::drafts::{draft, largest_draft, number_places, soften_some, with_long_forms};
 use crate::families::limits::chain;
 use crate::families::loops::looped_edges;
 use crate::families::soft::any_draft;
@@ -19,7 +19,7 @@ pub fn empty_spellings(judge: &mut Judge, _: &mut Random, _: usize) {
         let number = |value, place: u32| Field::Number { value, width: WIDTHS[code / 3usize.pow(place) % 3] };
         let bytes = bytes_of(&[number(1 + code as u32 / 27, 0), number(0, 1), number(0, 2)]);
         judge.judge_table(&bytes);
-        judge.judge_write_buffers(&bytes, &[-3, -2, -1, 0, 1, 2, 3, 60]);
+        judge.judge_written_buffers(&bytes, &[-3, -2, -1, 0, 1, 2, 3, 60]);
     }
 }
 
@@ -28,18 +28,18 @@ pub fn single_long_forms(judge: &mut Judge, _: &mut Random, _: usize) {
     for firmness in [None, Some(vec![0, 0, 0]), Some(vec![0, 0, 1]), Some(vec![1, 0, 0]), Some(vec![1, 1, 1])] {
         let fields = fields_of(&Draft { firmness, ..telling_draft() });
         for (own, others) in WIDTHS.into_iter().flat_map(|own| WIDTHS.map(|others| (own, others))) {
-            for at in (0..fields.len()).filter(|&at| matches!(fields[at], Field::Number { .. })) {
+            for at in number_places(&fields) {
                 let mut spelled = fields.clone();
                 widen(&mut spelled, || others);
                 widen(&mut spelled[at..=at], || own);
-                judge.judge_write_only(&bytes_of(&spelled));
+                judge.judge_written(&bytes_of(&spelled));
             }
         }
     }
 }
 
 /// Every kind of field, and of each number one that takes one byte and one that takes two; the must edges form a loop.
-fn telling_draft() -> Draft {
+pub fn telling_draft() -> Draft {
     let (low, high) = (Kind::Adjustment { tolerance: 50 }, Kind::Adjustment { tolerance: 9999 });
     let (brief, long) = (Kind::Wait { minutes: 30 }, Kind::Wait { minutes: 240 });
     let names: [&[u8]; 5] = [b"lock", b"=|^~", b"abcdefghijklmnop", b"w", b"15_bytes_long_a"];
@@ -89,7 +89,7 @@ fn judge_firmness(judge: &mut Judge, draft: &Draft) {
 
 fn judge_widths(judge: &mut Judge, draft: &Draft) {
     for width in WIDTHS {
-        judge.judge_write_only(&write_widened(draft, || width));
+        judge.judge_written(&write_widened(draft, || width));
     }
 }
 
@@ -100,7 +100,7 @@ pub fn single_soft(judge: &mut Judge, _: &mut Random, _: usize) {
         for (at, soft) in (0..edges).flat_map(|at| [(at, 0), (at, 1)]) {
             let mut firmness = vec![1 - soft; edges];
             firmness[at] = soft;
-            judge.judge_write_only(&write_table(&Draft { firmness: Some(firmness), ..draft.clone() }));
+            judge.judge_written(&write_table(&Draft { firmness: Some(firmness), ..draft.clone() }));
         }
     }
 }
@@ -127,13 +127,13 @@ pub fn spellings(judge: &mut Judge, random: &mut Random, group: usize) {
     if random.one_in(2) {
         drafted = soften_some(random, drafted);
     }
-    judge.judge_write_only(&write_table(&drafted));
+    judge.judge_written(&write_table(&drafted));
     for _ in 0..3 {
-        judge.judge_write_only(&with_long_forms(random, &drafted));
+        judge.judge_written(&with_long_forms(random, &drafted));
     }
 }
 
-/// A buffer of every length, for accepted tables and for ones that are cut.
+/// A buffer of every length, for tables with long forms and without, and for ones that are cut.
 pub fn buffers(judge: &mut Judge, random: &mut Random, group: usize) {
     let mut drafted = any_draft(random);
     drafted.steps.truncate(3);
@@ -142,15 +142,16 @@ pub fn buffers(judge: &mut Judge, random: &mut Random, group: usize) {
     if group % 2 == 0 {
         drafted = soften_some(random, drafted);
     }
-    let mut bytes = with_long_forms(random, &drafted);
-    if group % 8 == 1 {
-        bytes.pop();
+    for mut bytes in [with_long_forms(random, &drafted), write_table(&drafted)] {
+        if group % 8 == 1 {
+            bytes.pop();
+        }
+        let len = bytes.len() as isize;
+        judge.judge_written_buffers(&bytes, &(-len..=len).collect::<Vec<_>>());
     }
-    let len = bytes.len() as isize;
-    judge.judge_write_buffers(&bytes, &(-len..=len).collect::<Vec<_>>());
 }
 
-/// No shortest form is longer than the first, and no table longer than the second.
+/// No shortest form is longer than the first, and no stored table longer than the second.
 const LONGEST: [usize; 2] = [2436, 4489];
 
 /// As many steps and edges as there may be, names of 16 bytes, and numbers of two bytes wherever one can be.
@@ -166,6 +167,7 @@ pub fn largest(judge: &mut Judge, random: &mut Random, group: usize) {
     let (short, long) = (write_table(&draft), write_widened(&draft, || 3));
     assert_eq!([short.len(), long.len()], LONGEST);
     judge.judge_table(&short);
-    judge.judge_write_buffers(&long, &[-10_000, -1, 0, 1, 1000]);
-    judge.judge_write_only(&with_long_forms(random, &draft));
+    judge.judge_written_buffers(&long, &[-10_000, -1, 0, 1, 1000]);
+    judge.compare_conversion(&long);
+    judge.judge_written(&with_long_forms(random, &draft));
 }

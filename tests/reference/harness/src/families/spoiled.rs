@@ -9,7 +9,7 @@ use crate::judge::Judge;
 use crate::shapes;
 
 /// The limits of all fields and their neighbours.
-const VALUES: [u32; 29] = [
+pub const VALUES: [u32; 29] = [
     0, 1, 2, 3, 4, 5, 15, 16, 17, 63, 64, 65, 127, 128, 191, 192, 193, 239, 240, 241, 254, 255, 256, 257, 9_998, 9_999,
     10_000, 16_384, 2_097_151,
 ];
@@ -58,8 +58,10 @@ fn spoil_each(judge: &mut Judge, random: &mut Random, good: &[Field]) {
                     judge.judge_table(&bytes_of(&fields));
                 }
                 for value in VALUES {
-                    fields[at] = Field::Number { value, width: random.between(1, 3) as u32 };
-                    judge.judge_table(&bytes_of(&fields));
+                    for width in [1, random.between(2, 3) as u32] {
+                        fields[at] = Field::Number { value, width };
+                        judge.judge_table(&bytes_of(&fields));
+                    }
                 }
             }
         }
@@ -85,7 +87,9 @@ fn spoil_two(judge: &mut Judge, random: &mut Random, mut fields: Vec<Field>) {
         let at = random.below(fields.len());
         fields[at] = match fields[at] {
             Field::Byte(_) => Field::Byte(random.pick(&BYTES)),
-            Field::Number { .. } => Field::Number { value: random.pick(&VALUES), width: random.between(1, 4) as u32 },
+            Field::Number { .. } => {
+                Field::Number { value: random.pick(&VALUES), width: random.pick(&[1, 1, 1, 2, 3, 4]) }
+            }
         };
     }
     let mut bytes = bytes_of(&fields);

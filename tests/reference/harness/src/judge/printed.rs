@@ -1,12 +1,15 @@
-//! Puts an input to the programs and compares what they print.
+//! Puts an input to the programs and compares what they hand out.
 
-use reference::listing::{print_chart, refusal_of};
+use reference::convert::convert_table;
+use reference::listing::print_chart;
+use reference::program::refusal_of;
 use reference::records::Record;
 use reference::refusal::Refusal;
 use reference::words::{print_rows, print_words, write_words, MAX_ENTRIES};
 
 use super::{hex, Judge};
-use crate::host::{CHART, RECORDS};
+use crate::host::{CHART, CONVERT, RECORDS};
+use crate::program::Program;
 use crate::watch;
 
 /// Bytes that make no record, at most.
@@ -16,28 +19,35 @@ impl Judge {
     /// One table in so many goes to the program `chart` too.
     pub(super) fn sample_listing(&mut self, bytes: &[u8]) {
         self.tables += 1;
-        if self.programs.chart.as_ref().is_some_and(|program| self.tables % program.every == 0) {
+        if samples(&self.programs.chart, self.tables) {
             self.compare_listing(bytes);
         }
     }
 
     /// Puts a table to the program `chart`, if there is one.
     pub fn compare_listing(&mut self, bytes: &[u8]) {
-        let Some(program) = &self.programs.chart else { return };
-        let expected = print_chart(bytes);
-        let mut fault = None;
-        watch::timed(CHART, || {
-            fault = program.compare(bytes, &expected);
-            0
-        });
-        self.tally.note_listing(refusal_of(&expected));
-        self.settle(CHART, fault, || format!("the program, table {}", hex(bytes)));
+        if self.programs.chart.is_some() {
+            self.compare_output(CHART, bytes, &print_chart(bytes));
+        }
+    }
+
+    /// One table in so many goes to the program `convert` too.
+    pub(super) fn sample_conversion(&mut self, bytes: &[u8]) {
+        self.stored += 1;
+        if samples(&self.programs.convert, self.stored) {
+            self.compare_conversion(bytes);
+        }
+    }
+
+    /// Puts a table to the program `convert`, if there is one.
+    pub fn compare_conversion(&mut self, bytes: &[u8]) {
+        self.compare_output(CONVERT, bytes, &convert_table(bytes));
     }
 
     /// Whether the record list at hand goes to the program `records` too: one in so many does.
     pub(super) fn samples_list(&mut self) -> bool {
         self.lists += 1;
-        self.programs.records.as_ref().is_some_and(|program| self.lists % program.every == 0)
+        samples(&self.programs.records, self.lists)
     }
 
     /// Puts a record list to the program `records`, with part of a record behind it. Buffers are exact, one short (for no
@@ -47,23 +57,34 @@ impl Judge {
         for entries in [needed, needed.wrapping_sub(1), needed + 1, MAX_ENTRIES + 1] {
             let mut input = write_words(steps, entries, records);
             input.resize(input.len() + self.lists as usize % PART, 0xff);
-            self.compare_words(&input, &print_rows(rows, entries));
+            self.compare_output(RECORDS, &input, &print_rows(rows, entries));
         }
     }
 
     /// Puts an input that ends anywhere to the program `records`, if there is one.
     pub fn compare_cut_words(&mut self, input: &[u8]) {
-        self.compare_words(input, &print_words(input));
+        self.compare_output(RECORDS, input, &print_words(input));
     }
 
-    fn compare_words(&mut self, input: &[u8], expected: &[u8]) {
-        let Some(program) = &self.programs.records else { return };
+    /// Puts an input to the program of a call, if there is one.
+    fn compare_output(&mut self, call: usize, input: &[u8], expected: &[u8]) {
+        let program = match call {
+            CHART => &self.programs.chart,
+            RECORDS => &self.programs.records,
+            _ => &self.programs.convert,
+        };
+        let Some(program) = program else { return };
         let mut fault = None;
-        watch::timed(RECORDS, || {
+        watch::timed(call, || {
             fault = program.compare(input, expected);
             0
         });
-        self.tally.inputs += 1;
-        self.settle(RECORDS, fault, || format!("the program, words {}", hex(input)));
+        self.tally.note_output(call, refusal_of(expected));
+        self.settle(call, fault, || format!("the program, input {}", hex(input)));
     }
+}
+
+/// Whether the input of this number is put to the program.
+fn samples(program: &Option<Program>, number: u64) -> bool {
+    program.as_ref().is_some_and(|program| number % program.every == 0)
 }

@@ -1,51 +1,56 @@
-//! Puts a table to the call that writes its shortest form, and reads again what was written.
+//! Puts a table to the calls that write its shortest form, and reads again what was written.
 
 use reference::calls::{hand_out_bytes, pack};
+use reference::points::MAX_POINTS;
 use reference::refusal::Refusal;
 use reference::shortest::{said, shortest, Said};
-use reference::table::{read_table, Table};
+use reference::table::{read_stored, read_table, Table};
 
 use super::{answer_fault, buffer_fault, hex, Judge};
-use crate::host::{self, WRITE};
+use crate::host::{self, CALLS, CHART, CONVERT, COUNTS, NAME, RECORDS, ROWS, WRITE};
+use crate::shapes::STEPS;
 use crate::watch;
 
-/// The longest buffer that is lent, longer than any table that is accepted.
+/// The longest buffer that is lent, longer than any table that is accepted by either rule.
 const MOST: usize = 5000;
+
+type Read = fn(&[u8]) -> Result<Table, Refusal>;
+
+/// The calls that write, each with the reader of its rule.
+const WRITERS: [(usize, Read); 2] = [(WRITE, read_table), (CONVERT, read_stored)];
 
 /// What is due: what the table says, and its shortest form.
 type Due = Result<(Said, Vec<u8>), Refusal>;
 
 impl Judge {
-    /// With buffers exact and one other choice.
-    pub(super) fn judge_write(&mut self, bytes: &[u8], table: &Result<Table, Refusal>) {
-        if !self.wanted[WRITE] {
-            return;
+    /// The calls that write, with buffers exact and one other choice.
+    pub fn judge_written(&mut self, bytes: &[u8]) {
+        for (call, read) in self.wanted_writers() {
+            let due = due_of(bytes, read);
+            let needed = needed_by(&due);
+            if due.is_ok() {
+                self.tally.note_written(call, bytes.len(), needed);
+            }
+            for len in [needed, self.other_room(needed, bytes.len())] {
+                self.compare_written(call, bytes, &due, len);
+            }
         }
-        let due = due_of(bytes, table);
-        let needed = needed_by(&due);
-        if due.is_ok() {
-            self.tally.note_written(bytes.len(), needed);
-        }
-        for len in [needed, self.other_room(needed, bytes.len())] {
-            self.compare_written(bytes, &due, len);
-        }
-    }
-
-    /// This call alone.
-    pub fn judge_write_only(&mut self, bytes: &[u8]) {
-        self.judge_write(bytes, &read_table(bytes));
+        self.sample_conversion(bytes);
     }
 
     /// With every one of these buffer lengths, as differences from what is needed; and one as long as the table.
-    pub fn judge_write_buffers(&mut self, bytes: &[u8], offsets: &[isize]) {
-        if !self.wanted[WRITE] {
-            return;
+    pub fn judge_written_buffers(&mut self, bytes: &[u8], offsets: &[isize]) {
+        for (call, read) in self.wanted_writers() {
+            let due = due_of(bytes, read);
+            let needed = needed_by(&due);
+            for len in offsets.iter().map(|&more| needed.saturating_add_signed(more)).chain([bytes.len()]) {
+                self.compare_written(call, bytes, &due, len.min(MOST));
+            }
         }
-        let due = due_of(bytes, &read_table(bytes));
-        let needed = needed_by(&due);
-        for len in offsets.iter().map(|&more| needed.saturating_add_signed(more)).chain([bytes.len()]) {
-            self.compare_written(bytes, &due, len.min(MOST));
-        }
+    }
+
+    fn wanted_writers(&self) -> Vec<(usize, Read)> {
+        WRITERS.into_iter().filter(|&(call, _)| self.wanted[call]).collect()
     }
 
     /// Some other length, for the most part one that is just too short or just long enough.
@@ -57,7 +62,7 @@ impl Judge {
         self.random.pick(&[&near[..], &others].concat()).min(MOST)
     }
 
-    fn compare_written(&mut self, bytes: &[u8], due: &Due, len: usize) {
+    fn compare_written(&mut self, call: usize, bytes: &[u8], due: &Due, len: usize) {
         let filling = self.filling(len);
         let mut content = filling.clone();
         let due_bytes = due.as_ref().map(|(_, written)| written).map_err(|&refusal| refusal);
@@ -65,19 +70,65 @@ impl Judge {
         let flush = self.random.one_in(2);
         let table = (self.table.place(bytes, flush, 1) as *const u8, bytes.len());
         let out = (self.written.place(&filling, flush, 1), len);
-        let (answer, took) = watch::timed(WRITE, || host::write(table, out));
-        self.tally.note_call(WRITE, expected, took, self.place);
+        let (answer, took) = watch::timed(call, || write_by(call, table, out));
+        self.tally.note_call(call, expected, took, self.place);
         let fault = self
             .input_fault(bytes)
             .or_else(|| said_fault(bytes, due, answer, self.written.content()))
             .or_else(|| answer_fault(expected, answer))
-            .or_else(|| buffer_fault("written", &mut self.written, &content));
-        self.settle(WRITE, fault, || format!("buffer {len}, table {}", hex(bytes)));
+            .or_else(|| buffer_fault("written", &mut self.written, &content))
+            .or_else(|| self.again_fault(call, bytes, answer));
+        self.settle(call, fault, || format!("buffer {len}, table {}", hex(bytes)));
+    }
+
+    /// Whatever the reference would say: what was converted, if it was another table before, is taken by every call and
+    /// written as it is. Asked once for each table, where the buffer is exact.
+    fn again_fault(&mut self, call: usize, bytes: &[u8], answer: u64) -> Option<String> {
+        let converted = self.written.content().to_vec();
+        let exact = answer == (converted.len() as u64) << 8;
+        if call != CONVERT || !exact || converted == bytes {
+            return None;
+        }
+        let calls = (0..CALLS.len()).filter(|&call| self.wanted[call] && call != RECORDS);
+        calls.map(|call| (call, call_again(call, &converted))).find_map(|(call, (refusal, written))| {
+            let (call, other) = (CALLS[call], written != converted);
+            match refusal {
+                1..=10 | 15 => Some(format!("what was converted is refused by {refusal} in {call}")),
+                _ => other.then(|| format!("what was converted is written otherwise by {call}")),
+            }
+        })
     }
 }
 
-fn due_of(bytes: &[u8], table: &Result<Table, Refusal>) -> Due {
-    let said = said(bytes, table.as_ref().map_err(|&refusal| refusal)?);
+/// A call on a table by itself, with buffers that are long enough: the refusal; and what was written, for a call that does
+/// not write the table as it is.
+fn call_again(call: usize, bytes: &[u8]) -> (u64, Vec<u8>) {
+    let table = (bytes.as_ptr(), bytes.len());
+    let (mut rows, mut order) = ([0; STEPS], [0; MAX_POINTS]);
+    let (rows, order) = ((rows.as_mut_ptr(), STEPS), (order.as_mut_ptr(), MAX_POINTS));
+    let writes = call == WRITE || call == CONVERT;
+    let mut written = if writes { vec![0; bytes.len()] } else { bytes.to_vec() };
+    let out = (written.as_mut_ptr(), written.len());
+    let (answer, _) = watch::timed(call, || match call {
+        COUNTS => host::counts(table),
+        NAME => host::name(table, 0),
+        ROWS => host::rows(table, rows),
+        CHART => host::chart(table, rows, order),
+        _ => write_by(call, table, out),
+    });
+    (answer & 0xff, written)
+}
+
+fn write_by(call: usize, table: host::Bytes, out: host::BytesMut) -> u64 {
+    if call == WRITE {
+        host::write(table, out)
+    } else {
+        host::convert(table, out)
+    }
+}
+
+fn due_of(bytes: &[u8], read: Read) -> Due {
+    let said = said(bytes, &read(bytes)?);
     let written = shortest(&said);
     Ok((said, written))
 }
