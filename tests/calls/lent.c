@@ -42,6 +42,13 @@ uint64_t call_write(const Table *t, size_t room, uint8_t *out) {
   return answer;
 }
 
+uint64_t call_convert(const Table *t, size_t room, uint8_t *out) {
+  Lent lent;
+  uint64_t answer = yuvatondro_convert(t->byte, t->len, lend(&lent, room), room);
+  take_back(&lent, "convert", answer, out);
+  return answer;
+}
+
 uint64_t call_chart(const Table *t, size_t room, size_t points, uint8_t *rows, uint16_t *order) {
   Lent lent;
   uint16_t order_buffer[GUARD + POINTS + GUARD];

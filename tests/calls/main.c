@@ -22,6 +22,7 @@ int main(void) {
   test_chart_call();
   test_soft_edges();
   test_write_call();
+  test_convert_call();
   printf("host: %d checks, each as expected\n", checks);
   return 0;
 }

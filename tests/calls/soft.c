@@ -39,12 +39,12 @@ static void test_soft(void) {
 static void test_longest(void) {
   uint8_t rows[ROWS];
   uint16_t order[POINTS];
-  Table t = write_largest(1);
-  expect(t.len == LONGEST, "longest: its length");
+  Table t = write_largest(0);
+  expect(t.len == YUVATONDRO_MAX_SHORTEST, "longest: its length");
   uint64_t answer = yuvatondro_counts(t.byte, t.len);
   expect(yuvatondro_refusal(answer) == 0 && yuvatondro_steps(answer) == 64 && yuvatondro_edges(answer) == 192, "longest: counts");
   answer = yuvatondro_name(t.byte, t.len, 63);
-  expect(yuvatondro_name_length(answer) == 16 && yuvatondro_name_start(answer) == 6 + 63 * 25 + 9, "longest: the last name");
+  expect(yuvatondro_name_length(answer) == 16 && yuvatondro_name_start(answer) == 2 + 63 * 20 + 4, "longest: the last name");
   answer = call_chart(&t, 64, 640, rows, order);
   expect(yuvatondro_refusal(answer) == 0 && yuvatondro_points(answer) == 640, "longest: 64 steps and 192 times 3 dummies");
   expect(yuvatondro_total(answer) == 192 * 255 * 4 && yuvatondro_crossings(answer) == 0, "longest: total and crossings");

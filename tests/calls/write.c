@@ -1,47 +1,17 @@
 /* The call that writes the shortest form of a table. */
 #include "calls.h"
 
-/* Tables with their shortest form, and what the rows call refuses both by. */
-static const struct {
-  const char *table, *shortest;
-  unsigned rows;
-} written[] = {
-    /* the sample in edition 2, with every number in two bytes or three */
-    {"82 80 00 84 00 82 00 9E 80 00 84 00 77 61 72 6D 80 00 84 80 00 6C 6F 63 6B 80 80 00 85 00 73 77 65 65 70 "
-     "81 00 B2 80 00 85 00 6C 65 76 65 6C 84 80 00 80 00 81 80 00 81 00 81 00 80 00 81 00 82 00 82 80 00 83 00 80 80 00 "
-     "80 80 00 83 00 81 00 81 80 00 80 00 83 00 82 00 81 80 00 85 00 80 80 00",
-     SAMPLE, 0},
-    /* the only soft edge is the last, and is turned; 127 in one byte and 128 in two, as tolerance or minutes and as weight */
-    {"82 00 02 81 00 FF 00 01 41 02 80 81 00 02 42 43 82 80 00 00 01 01 FF 00 80 00 01 80 00 84 00 80 81 00 81 00",
-     "02 02 01 7F 01 41 02 80 01 02 42 43 02 00 01 01 7F 00 01 00 04 80 01 01", 0},
-    {"01 00 00", "01 00 00", 0},
-    {"02 00 00", "01 00 00", 0},
-    {"82 80 00 80 00 80 80 00", "01 00 00", 0},
-    {"02 02 00 01 41 00 01 42 01 00 01 01 05 00", "01 02 00 01 41 00 01 42 01 00 01 01 05", 0},
-    {"01 01 01 8F CE 00 90 80 00 61 62 63 64 65 66 67 68 69 6A 6B 6C 6D 6E 6F 70 00",
-     "01 01 01 8F 4E 10 61 62 63 64 65 66 67 68 69 6A 6B 6C 6D 6E 6F 70 00", 0},
-    /* tolerances 0 and 128, 127 minutes, two equal edges of weight 0 */
-    {"02 04 81 00 80 00 01 41 01 80 81 00 01 41 02 FF 80 00 01 41 02 01 01 41 02 00 01 01 80 00 00 00 01 01 80 80 00 80 00",
-     "01 04 01 00 01 41 01 80 01 01 41 02 7F 01 41 02 01 01 41 02 00 01 01 00 00 01 01 00", 0},
-    /* must edges that form a loop, alone and beside a soft edge */
-    {"02 02 00 01 41 00 01 42 02 00 01 01 01 00 01 00 01 01 80 00", "01 02 00 01 41 00 01 42 02 00 01 01 01 01 00 01 01", 11},
-    {"02 03 00 01 41 00 01 42 00 01 43 03 00 01 01 01 81 00 01 02 01 01 00 02 01 01 01 00",
-     "02 03 00 01 41 00 01 42 00 01 43 03 00 01 01 01 01 01 02 01 01 00 02 01 01 01 00", 11},
-};
-enum { WRITTEN = sizeof written / sizeof *written };
-
 /* Buffers exact, longer, one short and empty. */
-static void test_buffers(const Table *t, const Table *shortest) {
+void test_writer(const char *call, Writer *writer, const Table *t, const Table *shortest) {
   uint8_t out[LONGEST];
   uint64_t due = (uint64_t)shortest->len << 8;
-  expect(call_write(t, shortest->len, out) == due && memcmp(out, shortest->byte, shortest->len) == 0, "write: an exact buffer");
-  expect(call_write(t, t->len, out) == due && memcmp(out, shortest->byte, shortest->len) == 0, "write: a buffer as long as the table");
-  expect(call_write(t, shortest->len + 9, out) == due && memcmp(out, shortest->byte, shortest->len) == 0, "write: a longer buffer");
-  for (size_t i = 0; i < 9; i++) expect(out[shortest->len + i] == FILL, "write: a byte behind the last changed");
-  expect(call_write(t, YUVATONDRO_MAX_SHORTEST, out) == due, "write: a buffer for every table");
-  expect(call_write(t, shortest->len - 1, out) == 13, "write: a buffer one short");
-  expect(call_write(t, 0, out) == 13, "write: an empty buffer");
-  expect(yuvatondro_write(t->byte, t->len, NULL, 0) == 13, "write: no buffer");
+  expect_of(call, writer(t, shortest->len, out) == due && memcmp(out, shortest->byte, shortest->len) == 0, "an exact buffer");
+  expect_of(call, writer(t, t->len, out) == due && memcmp(out, shortest->byte, shortest->len) == 0, "a buffer as long as the table");
+  expect_of(call, writer(t, shortest->len + 9, out) == due && memcmp(out, shortest->byte, shortest->len) == 0, "a longer buffer");
+  for (size_t i = 0; i < 9; i++) expect_of(call, out[shortest->len + i] == FILL, "a byte behind the last changed");
+  expect_of(call, writer(t, YUVATONDRO_MAX_SHORTEST, out) == due, "a buffer for every table");
+  expect_of(call, writer(t, shortest->len - 1, out) == 13, "a buffer one short");
+  expect_of(call, writer(t, 0, out) == 13, "an empty buffer");
 }
 
 /* The shortest form gives what the table gives, with its rows or without, and is its own shortest form. */
@@ -70,7 +40,8 @@ static void test_written(void) {
   for (size_t i = 0; i < WRITTEN; i++) {
     Table t = read_hex(written[i].table), shortest = read_hex(written[i].shortest);
     expect(yuvatondro_refusal(call_rows(&t, 64, rows)) == written[i].rows, "write: what the rows call makes of the table");
-    test_buffers(&t, &shortest);
+    test_writer("write", call_write, &t, &shortest);
+    expect(yuvatondro_write(t.byte, t.len, NULL, 0) == 13, "write: no buffer");
     test_same(&t, &shortest);
   }
 }
@@ -86,14 +57,17 @@ static void test_refused(void) {
   expect(yuvatondro_write(NULL, 0, NULL, 0) == 1, "write: no table and no buffer");
 }
 
+/* The longest table is its own shortest form. */
 static void test_largest(void) {
   uint8_t out[LONGEST];
-  Table t = write_largest(1), shortest = write_largest(0);
-  expect(t.len == LONGEST && shortest.len == YUVATONDRO_MAX_SHORTEST, "largest: the longest table has the longest shortest form");
-  test_buffers(&t, &shortest);
-  test_same(&t, &shortest);
+  Table t = write_largest(0);
+  expect(t.len == YUVATONDRO_MAX_SHORTEST, "largest: its length");
+  test_writer("write", call_write, &t, &t);
+  test_same(&t, &t);
   t.byte[t.len++] = 0;
   expect(call_write(&t, 0, out) == 10 && call_write(&t, LONGEST, out) == 10, "largest: a spare byte");
+  t = write_largest(1);
+  expect(call_write(&t, LONGEST, out) == 2, "largest: in long forms");
 }
 
 void test_write_call(void) {
