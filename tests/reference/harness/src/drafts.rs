@@ -84,11 +84,14 @@ pub fn draft(random: &mut Random, steps: usize, edges: Vec<Edge>) -> Draft {
     Draft { steps: (0..steps).map(|_| (any_kind(random), any_name(random))).collect(), edges, firmness: None }
 }
 
-/// Every count at its limit, and every step as long as it can be.
-pub fn largest_draft(random: &mut Random) -> Draft {
+/// Every count at its limit, and every step and edge as long as it can be in its fewest bytes.
+pub fn longest_draft(random: &mut Random) -> Draft {
     let shape = shapes::full(random);
     let (gaps, weights) = (any_gaps(random), any_weights(random));
-    let edges = dress(random, &shape, gaps, weights);
+    let mut edges = dress(random, &shape, gaps, weights);
+    for edge in &mut edges {
+        edge.weight |= 0x80;
+    }
     let mut draft = draft(random, shape.steps, edges);
     for (kind, name) in &mut draft.steps {
         *kind = Kind::Adjustment { tolerance: 9999 };

@@ -101,8 +101,8 @@ pub const FAMILIES: &[Family] = &[
     endless("half turned", 150, soft::half_turned),
     endless("cut", 300, bytes::cut_everywhere),
     endless("cut soft", 100, bytes::cut_soft),
-    endless("spoiled fields", 25, spoiled::each_field),
-    endless("spoiled soft fields", 12, spoiled::each_soft_field),
+    endless("spoiled fields", 50, spoiled::each_field),
+    endless("spoiled soft fields", 20, spoiled::each_soft_field),
 ];
 
 /// A generator of its own for each group, by the family's name, so that a family keeps its cases when others come.

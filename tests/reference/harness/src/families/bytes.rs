@@ -4,7 +4,7 @@ use reference::random::Random;
 use reference::writer::{write_table, write_widened, Draft};
 
 use crate::drafts::{
-    any_gaps, any_weights, draft, dress, largest_draft, soften_some, with_long_forms, with_one_long_form,
+    any_gaps, any_weights, draft, dress, longest_draft, soften_some, with_long_forms, with_one_long_form,
 };
 use crate::judge::Judge;
 use crate::shapes;
@@ -57,34 +57,34 @@ fn small_soft_draft(random: &mut Random) -> Draft {
     soften_some(random, draft)
 }
 
-fn some_table(random: &mut Random, make: fn(&mut Random) -> Draft) -> Vec<u8> {
-    let draft = make(random);
-    if random.one_in(3) {
-        with_long_forms(random, &draft)
-    } else {
-        write_table(&draft)
-    }
+/// A table in its fewest bytes, for all calls; and in long forms, which but one call refuse soon, for those that write.
+fn spell(random: &mut Random, draft: &Draft) -> [(Vec<u8>, fn(&mut Judge, &[u8])); 2] {
+    [(write_table(draft), Judge::judge_table), (with_long_forms(random, draft), Judge::judge_written)]
 }
 
 pub fn cut_everywhere(judge: &mut Judge, random: &mut Random, _: usize) {
-    cut(judge, &some_table(random, small_draft));
+    let draft = small_draft(random);
+    cut(judge, random, &draft);
 }
 
 pub fn cut_soft(judge: &mut Judge, random: &mut Random, _: usize) {
-    cut(judge, &some_table(random, small_soft_draft));
+    let draft = small_soft_draft(random);
+    cut(judge, random, &draft);
 }
 
-fn cut(judge: &mut Judge, bytes: &[u8]) {
-    for len in 0..=bytes.len() {
-        judge.judge_table(&bytes[..len]);
+fn cut(judge: &mut Judge, random: &mut Random, draft: &Draft) {
+    for (bytes, put) in spell(random, draft) {
+        (0..=bytes.len()).for_each(|len| put(judge, &bytes[..len]));
     }
 }
 
 pub fn spare(judge: &mut Judge, random: &mut Random, _: usize) {
-    let mut bytes = some_table(random, small_draft);
-    for _ in 0..random.between(1, 3) {
-        bytes.push(random.pick(&[0, 1, 0x41, 0x80, 0xff]));
-        judge.judge_table(&bytes);
+    let draft = small_draft(random);
+    for (mut bytes, put) in spell(random, &draft) {
+        for _ in 0..random.between(1, 3) {
+            bytes.push(random.pick(&[0, 1, 0x41, 0x80, 0xff]));
+            put(judge, &bytes);
+        }
     }
 }
 
@@ -106,16 +106,24 @@ fn judge_spellings(judge: &mut Judge, random: &mut Random, draft: &Draft) {
 }
 
 pub fn mutated(judge: &mut Judge, random: &mut Random, _: usize) {
-    let bytes = some_table(random, small_draft);
-    mutate(judge, random, bytes);
+    let draft = small_draft(random);
+    mutate(judge, random, &draft);
 }
 
 pub fn mutated_soft(judge: &mut Judge, random: &mut Random, _: usize) {
-    let bytes = some_table(random, small_soft_draft);
-    mutate(judge, random, bytes);
+    let draft = small_soft_draft(random);
+    mutate(judge, random, &draft);
 }
 
-fn mutate(judge: &mut Judge, random: &mut Random, mut bytes: Vec<u8>) {
+fn mutate(judge: &mut Judge, random: &mut Random, draft: &Draft) {
+    for (mut bytes, put) in spell(random, draft) {
+        spoil(random, &mut bytes);
+        put(judge, &bytes);
+    }
+}
+
+/// Bytes changed, put in or taken out.
+fn spoil(random: &mut Random, bytes: &mut Vec<u8>) {
     for _ in 0..random.between(1, 4) {
         let at = random.below(bytes.len());
         match random.below(5) {
@@ -126,7 +134,6 @@ fn mutate(judge: &mut Judge, random: &mut Random, mut bytes: Vec<u8>) {
             _ => bytes[at] = bytes[at].wrapping_add(random.pick(&[1, 255])),
         }
     }
-    judge.judge_table(&bytes);
 }
 
 pub fn random_bytes(judge: &mut Judge, random: &mut Random, _: usize) {
@@ -143,18 +150,20 @@ pub fn random_bytes(judge: &mut Judge, random: &mut Random, _: usize) {
 
 /// Longer than any accepted table, and than the programs look at.
 pub fn long_input(judge: &mut Judge, random: &mut Random, group: usize) {
-    let bytes = if group % 3 == 0 { some_table(random, small_draft) } else { longest_table(random, false, group % 2) };
-    lengthen(judge, random, bytes);
+    let draft = if group % 3 == 0 { small_draft(random) } else { longest_draft(random) };
+    lengthen(judge, random, &draft, group);
 }
 
 pub fn long_soft_input(judge: &mut Judge, random: &mut Random, group: usize) {
-    let bytes =
-        if group % 3 == 0 { some_table(random, small_soft_draft) } else { longest_table(random, true, group % 2) };
-    lengthen(judge, random, bytes);
+    let draft = if group % 3 == 0 { small_draft(random) } else { longest_draft(random) };
+    let draft = soften_some(random, draft);
+    lengthen(judge, random, &draft, group);
 }
 
-fn lengthen(judge: &mut Judge, random: &mut Random, mut bytes: Vec<u8>) {
-    let len = random.pick(&[2244, 2245, 2436, 2437, 3913, 3914, 4489, 4490, 8191, 8192, 8193, 10_000, 20_000]);
+/// By turns in the fewest bytes and with every number in three.
+fn lengthen(judge: &mut Judge, random: &mut Random, draft: &Draft, group: usize) {
+    let mut bytes = write_widened(draft, || [1, 3][group % 2]);
+    let len = random.pick(&LENGTHS);
     let filling = random.pick(&[0, 1, 0x41, 0x80]);
     for len in [bytes.len(), bytes.len() + 1, len.max(bytes.len() + 1)] {
         bytes.resize(len, filling);
@@ -164,19 +173,6 @@ fn lengthen(judge: &mut Judge, random: &mut Random, mut bytes: Vec<u8>) {
     }
 }
 
-/// Bytes of the longest table, by edition: with every number in its fewest bytes, and in three.
-const LONGEST_TABLES: [[usize; 2]; 2] = [[2244, 3913], [2436, 4489]];
-
-/// Every count at its limit, and numbers in their fewest bytes or in three.
-fn longest_table(random: &mut Random, soft: bool, in_three: usize) -> Vec<u8> {
-    let mut draft = largest_draft(random);
-    for edge in &mut draft.edges {
-        edge.weight |= 0x80;
-    }
-    if soft {
-        draft = soften_some(random, draft);
-    }
-    let bytes = write_widened(&draft, || [1, 3][in_three]);
-    assert_eq!(bytes.len(), LONGEST_TABLES[usize::from(soft)][in_three]);
-    bytes
-}
+/// The longest tables have 2,244 bytes in edition 1 and 2,436 in edition 2, stored ones 3,913 and 4,489; and a program looks
+/// at no more than 8,192.
+const LENGTHS: [usize; 13] = [2244, 2245, 2436, 2437, 3913, 3914, 4489, 4490, 8191, 8192, 8193, 10_000, 20_000];

@@ -4,7 +4,7 @@ use reference::random::Random;
 use reference::table::{Edge, Kind, LIMITS};
 use reference::writer::{bytes_of, fields_of, widen, write_table, write_widened, Draft, Field};
 
-use crate::drafts::{draft, largest_draft, number_places, soften_some, with_long_forms};
+use crate::drafts::{draft, longest_draft, number_places, soften_some, with_long_forms};
 use crate::families::limits::chain;
 use crate::families::loops::looped_edges;
 use crate::families::soft::any_draft;
@@ -156,10 +156,7 @@ const LONGEST: [usize; 2] = [2436, 4489];
 
 /// As many steps and edges as there may be, names of 16 bytes, and numbers of two bytes wherever one can be.
 pub fn largest(judge: &mut Judge, random: &mut Random, group: usize) {
-    let mut draft = largest_draft(random);
-    for edge in &mut draft.edges {
-        edge.weight |= 0x80;
-    }
+    let mut draft = longest_draft(random);
     judge_firmness(judge, &draft);
     let mut firmness = vec![0; EDGES];
     firmness[EDGES - 1 - group % EDGES] = 1;

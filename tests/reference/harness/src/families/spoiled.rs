@@ -2,7 +2,7 @@
 
 use reference::random::Random;
 use reference::table::Kind;
-use reference::writer::{bytes_of, fields_of, Draft, Field};
+use reference::writer::{bytes_of, fields_of, short, Draft, Field};
 
 use crate::drafts::{any_kind, any_name, any_weights, dress, soften_some, Gaps};
 use crate::judge::Judge;
@@ -58,10 +58,10 @@ fn spoil_each(judge: &mut Judge, random: &mut Random, good: &[Field]) {
                     judge.judge_table(&bytes_of(&fields));
                 }
                 for value in VALUES {
-                    for width in [1, random.between(2, 3) as u32] {
-                        fields[at] = Field::Number { value, width };
-                        judge.judge_table(&bytes_of(&fields));
-                    }
+                    fields[at] = short(value);
+                    judge.judge_table(&bytes_of(&fields));
+                    fields[at] = Field::Number { value, width: random.between(2, 3) as u32 };
+                    judge.judge_written(&bytes_of(&fields));
                 }
             }
         }

@@ -100,8 +100,8 @@ impl Judge {
     }
 }
 
-/// A call on a table by itself, with buffers that are long enough: the refusal; and what was written, for a call that does
-/// not write the table as it is.
+/// A call on a table with buffers that are long enough: its refusal, and what it wrote. Of a call that gives no table, the
+/// table stands for that.
 fn call_again(call: usize, bytes: &[u8]) -> (u64, Vec<u8>) {
     let table = (bytes.as_ptr(), bytes.len());
     let (mut rows, mut order) = ([0; STEPS], [0; MAX_POINTS]);
