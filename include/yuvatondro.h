@@ -100,8 +100,8 @@ static inline size_t yuvatondro_written(uint64_t answer) { return (size_t)(answe
  * in 81 00 for 1, and 2 is for a third byte with its high bit set alone. All else is as in yuvatondro_write: what is written, the
  * answer, the other refusals and their order, and which buffers are long enough.
  *
- * What it writes is accepted by every other call's reader and says what the stored table said. Of a table that the other calls accept
- * it writes what yuvatondro_write writes, and so changes nothing when it is called again. */
+ * What it writes, no other call refuses as a reader, and it says what the stored table said. Of a table without long forms it writes
+ * what yuvatondro_write writes, so that converting again changes nothing. */
 uint64_t yuvatondro_convert(const uint8_t *table, size_t table_len, uint8_t *out, size_t out_len);
 
 #ifdef __cplusplus
