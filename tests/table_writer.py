@@ -28,6 +28,13 @@ def bytes_of(steps, edges, longer=lambda: 0, edition=None):
     return out
 
 
+def first_long(table, shortest):
+    """Where the first number of a table with long forms ends, which is the byte 00 that it can do without. `shortest` is the same table without
+    long forms: the two differ first at the last byte that the number needs, whose high bit is set in the long form."""
+    differ = next(i for i, byte in enumerate(shortest) if table[i] != byte)
+    return table.index(0, differ)
+
+
 def text_of(steps, edges):
     times = Counter(name for name, _, _ in steps)
     ends = [name if times[name] == 1 and name[:1] != b"@" else b"@%d" % i for i, (name, _, _) in enumerate(steps)]

@@ -59,6 +59,8 @@ class Reader:
                 break
         else:
             raise self.fault(self.at - 1, 2, f"the third byte of {what} says that a fourth follows")
+        if place > 0 and byte == 0:
+            raise self.fault(self.at - 1, 2, f"the last byte of {what} is 00, so fewer bytes would do; convert shortens it")
         if value not in allowed:
             raise self.fault(start, refusal, f"{what} is {value}, not {span(allowed)}")
         return value
