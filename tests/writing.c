@@ -1,6 +1,9 @@
-/* What the library makes of each table on standard input, one a line in hexadecimal: `writes` and the shortest form, or `refused` and the
- * number. Each table is tried with the largest buffer, the exact one and every shorter one, all with guard bytes round them. Ends with
- * status 1 at the first surprise. */
+/* What a call of the library makes of each table on standard input, one a line in hexadecimal: `writes` and the shortest form, or
+ * `refused` and the number.
+ *   writing write     by yuvatondro_write, which takes no long forms
+ *   writing convert   by yuvatondro_convert, which takes them
+ * Each table is tried with the largest buffer, the exact one and every shorter one, all with guard bytes round them. Ends with status 1 at
+ * the first surprise, and with 2 if no such call is named. */
 #include <stdio.h>
 #include <stdlib.h>
 #include <string.h>
@@ -8,6 +11,10 @@
 #include "yuvatondro.h"
 
 enum { MAX_LINE = 1 << 15, GUARD = 32, FILL = 0xA5 };
+
+typedef uint64_t (*Call)(const uint8_t *table, size_t table_len, uint8_t *out, size_t out_len);
+static const struct { const char *name; Call call; } calls[] = { { "write", yuvatondro_write }, { "convert", yuvatondro_convert } };
+static Call chosen;
 
 static uint8_t table[MAX_LINE / 2];
 static size_t table_len;
@@ -33,9 +40,9 @@ static int read_table(void) {
 }
 
 /* The call with a buffer of `room` bytes. Nothing may change but the bytes that it says it wrote. */
-static uint64_t call_write(size_t room) {
+static uint64_t call_chosen(size_t room) {
   memset(guarded, FILL, sizeof guarded);
-  uint64_t answer = yuvatondro_write(table, table_len, out, room);
+  uint64_t answer = chosen(table, table_len, out, room);
   int done = yuvatondro_refusal(answer) == YUVATONDRO_DONE;
   size_t written = done ? yuvatondro_written(answer) : 0;
   expect(done || answer < 256, room, "more than the refusal stands in the answer");
@@ -51,22 +58,27 @@ static void check_rooms(uint64_t answer) {
   size_t written = yuvatondro_written(answer);
   memcpy(shortest, out, written);
   expect(written <= table_len, written, "the shortest form is longer than the table");
-  for (size_t room = 0; room < written; room++) expect(call_write(room) == YUVATONDRO_SHORT_BUFFER, room, "not refused by 13");
-  expect(call_write(written) == answer && memcmp(out, shortest, written) == 0, written, "not what a larger buffer gives");
+  for (size_t room = 0; room < written; room++) expect(call_chosen(room) == YUVATONDRO_SHORT_BUFFER, room, "not refused by 13");
+  expect(call_chosen(written) == answer && memcmp(out, shortest, written) == 0, written, "not what a larger buffer gives");
 }
 
-int main(void) {
-  while (read_table()) {
-    uint64_t answer = call_write(YUVATONDRO_MAX_SHORTEST);
-    if (yuvatondro_refusal(answer) != YUVATONDRO_DONE) {
-      expect(call_write(0) == answer, 0, "an empty buffer is judged before the table");
-      printf("refused %u\n", yuvatondro_refusal(answer));
-      continue;
-    }
-    check_rooms(answer);
-    printf("writes");
-    for (size_t i = 0; i < yuvatondro_written(answer); i++) printf(" %02X", out[i]);
-    printf("\n");
+static void show_table(void) {
+  uint64_t answer = call_chosen(YUVATONDRO_MAX_SHORTEST);
+  if (yuvatondro_refusal(answer) != YUVATONDRO_DONE) {
+    expect(call_chosen(0) == answer, 0, "an empty buffer is judged before the table");
+    printf("refused %u\n", yuvatondro_refusal(answer));
+    return;
   }
+  check_rooms(answer);
+  printf("writes");
+  for (size_t i = 0; i < yuvatondro_written(answer); i++) printf(" %02X", out[i]);
+  printf("\n");
+}
+
+int main(int argc, char **argv) {
+  for (size_t k = 0; k < sizeof calls / sizeof *calls; k++)
+    if (argc == 2 && strcmp(argv[1], calls[k].name) == 0) chosen = calls[k].call;
+  if (chosen == NULL) return 2;
+  while (read_table()) show_table();
   return 0;
 }
