@@ -5,7 +5,7 @@
 //   once soft NODES     our rows of the shapes of that size, with soft edges of which about half are turned
 //   once settled NODES  our rows of the same edges as kept or turned
 //   once short NODES    the shapes of that size, read, and written in their shortest form, which they have already
-//   once long NODES     the same with full steps and soft edges, and each number in three bytes
+//   once long NODES     the same with full steps and soft edges, read, and converted with each number in three bytes
 #include "chart_call.h"
 #include "peer.h"
 #include "rows_call.h"
@@ -44,13 +44,19 @@ static void soft_once(const SoftInstance *soft, int settled) {
   size_t length = settled ? write_table(&soft->settled, table) : write_edition_2(&soft->written, SOFT, table);
   if (call_rows(table, length, rows, soft->written.nodes) != 0) exit(1);
 }
-static void write_once(const Instance *inst, Form form) {
-  static uint8_t table[MAX_TABLE], out[MAX_TABLE];
-  size_t length = write_form(inst, form, table);
-  if (call_counts(table, length) != 0 || call_write(table, length, out) == 0) exit(1);
+static uint8_t form_table[MAX_TABLE], form_out[MAX_TABLE];
+static size_t read_once(const Instance *inst, Form form) {
+  size_t length = write_form(inst, form, form_table);
+  if (call_counts(form_table, length) != 0) exit(1);
+  return length;
 }
-static void short_once(Instance *inst) { write_once(inst, (Form){ 1, MUST, 0, 1 }); }
-static void long_once(Instance *inst) { write_once(inst, (Form){ 2, SOFT, 1, 3 }); }
+static void short_once(Instance *inst) {
+  if (call_write(form_table, read_once(inst, (Form){ 1, MUST, 0, 1 }), form_out) == 0) exit(1);
+}
+static void long_once(Instance *inst) {
+  read_once(inst, (Form){ 2, SOFT, 1, 1 });
+  if (call_convert(form_table, write_form(inst, (Form){ 2, SOFT, 1, 3 }, form_table), form_out) == 0) exit(1);
+}
 
 static int run_softly(size_t nodes, int settled) {
   static SoftInstance soft;

@@ -22,12 +22,14 @@ static uint64_t run_nothing(const Input *in) { return in->length == 0; }
 static uint64_t run_counts(const Input *in) { return yuvatondro_counts(in->table, in->length); }
 static uint64_t run_name(const Input *in) { return yuvatondro_name(in->table, in->length, 0); }
 static uint64_t run_write(const Input *in) { return yuvatondro_write(in->table, in->length, shortest, YUVATONDRO_MAX_SHORTEST); }
+static uint64_t run_convert(const Input *in) { return yuvatondro_convert(in->table, in->length, shortest, YUVATONDRO_MAX_SHORTEST); }
 static uint64_t run_rows(const Input *in) { return yuvatondro_rows(in->table, in->length, rows, MAX_NODES); }
 static uint64_t run_records(const Input *in) { return yuvatondro_records(in->inst->nodes, records, 4 * in->inst->edges, rows, MAX_NODES); }
 static uint64_t run_chart(const Input *in) { return yuvatondro_chart(in->table, in->length, rows, MAX_NODES, order, MAX_POINTS); }
 
 static Call calls[] = { { "counts", run_counts, 0, 0, 0 }, { "name", run_name, 0, 0, 0 }, { "write", run_write, 0, 0, 0 },
-                        { "rows", run_rows, 0, 0, 0 }, { "records", run_records, 0, 0, 0 }, { "chart", run_chart, 0, 0, 0 } };
+                        { "convert", run_convert, 0, 0, 0 }, { "rows", run_rows, 0, 0, 0 }, { "records", run_records, 0, 0, 0 },
+                        { "chart", run_chart, 0, 0, 0 } };
 enum { CALLS = sizeof calls / sizeof *calls };
 
 static uint8_t stack[STACK];

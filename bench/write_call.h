@@ -1,5 +1,5 @@
 // The only place that knows how the shortest form of a table is asked for. It is apart from rows_call.c because bench/before links that
-// file to libraries that do not have this call.
+// file to libraries that do not have these calls.
 #ifndef WRITE_CALL_H
 #define WRITE_CALL_H
 #include <stddef.h>
@@ -10,4 +10,7 @@ unsigned call_counts(const uint8_t *table, size_t length);
 
 // Writes the shortest form of a table to a buffer that is as long as the table; its length, or 0 where the table is refused.
 size_t call_write(const uint8_t *table, size_t length, uint8_t *out);
+
+// The same of a table that may have long forms of numbers.
+size_t call_convert(const uint8_t *table, size_t length, uint8_t *out);
 #endif

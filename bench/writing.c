@@ -1,9 +1,10 @@
-// What it costs to write the shortest form of a table, beside reading the table and beside finding its rows. Checks what is written.
+// What it costs to write the shortest form of a table, beside reading the table and beside finding its rows; and to convert the same table in
+// long forms, beside reading it in short ones. Checks what is written.
 //   writing
 //
-// Timed: the call for the counts, which reads the whole table and does nothing else, and the call that writes; then the rows call and the
-// call that writes. Timed in two ways, as rows are: in turn, each call once on every table, round after round; and back to back, many calls
-// on one table. A call on a small table takes about as long as a look at the clock, so the time of that look is taken off.
+// Timed: the call for the counts, which reads the whole table and does nothing else, and the call that writes, or the one that converts; then
+// the rows call and the call that writes. Timed in two ways, as rows are: in turn, each call once on every table, round after round; and back
+// to back, many calls on one table. A call on a small table takes about as long as a look at the clock, so the time of that look is taken off.
 #include "clock.h"
 #include "pairs.h"
 #include "write_call.h"
@@ -17,15 +18,19 @@ enum { LOOKS = 1001, SEEDS = 2, SMALLEST = 8, EDGES_A_NODE = 3, MAX_TITLE = 96, 
 static const struct { const char *name; unsigned edition, firmness; } editions[] = {
   { "edition 1", 1, MUST }, { "edition 2, all must", 2, MUST }, { "edition 2, all soft", 2, SOFT },
 };
-static const struct { const char *name; int width; } numbers[] = { { "shortest", 1 }, { "longest", 3 } };
 static const struct { const char *name; unsigned full; } steps[] = { { "1-byte", 0 }, { "16-byte", 1 } };
-enum { EDITIONS = sizeof editions / sizeof *editions, WIDTHS = sizeof numbers / sizeof *numbers, STEPS = sizeof steps / sizeof *steps };
+enum { EDITIONS = sizeof editions / sizeof *editions, STEPS = sizeof steps / sizeof *steps };
+
+// A call that writes the shortest form, how many bytes its tables have for a number at least, and what we want of its time.
+typedef struct { const char *name, *goal; size_t (*call)(const uint8_t *table, size_t length, uint8_t *out); int width; } Work;
+static const Work writing = { "writing", "; goal: at most 2", call_write, 1 }, converting = { "converting", "", call_convert, 3 };
 
 // One way of timing, with the last group of tables that it ran and a summary of all. All groups have as many tables, so the mean of their
 // means is that of the tables.
 typedef struct {
   const char *name;
   int calls;
+  const Work *work;
   Pairs pairs;
   double logs, worst;
   size_t tables, groups;
@@ -33,6 +38,7 @@ typedef struct {
 } Timing;
 
 static int calls;  // how many of them are timed together
+static const Work *timed;
 static char title[MAX_TITLE];
 
 static void read_tables(const uint8_t *table, size_t length, ChartAnswer *answer) {
@@ -40,7 +46,7 @@ static void read_tables(const uint8_t *table, size_t length, ChartAnswer *answer
 }
 static void write_tables(const uint8_t *table, size_t length, ChartAnswer *answer) {
   static uint8_t out[MAX_TABLE];
-  for (int k = 0; k < calls; k++) answer->refusal = call_write(table, length, out) == 0;
+  for (int k = 0; k < calls; k++) answer->refusal = timed->call(table, length, out) == 0;
 }
 static void find_rows(const uint8_t *table, size_t length, ChartAnswer *answer) {
   static uint8_t rows[MAX_NODES];
@@ -51,18 +57,20 @@ static void find_rows(const uint8_t *table, size_t length, ChartAnswer *answer) 
 static void check_written(const Pair *pair, const Instance *inst, Form form) {
   static uint8_t wanted[MAX_TABLE], out[MAX_TABLE];
   size_t length = write_form(inst, (Form){ form.firmness == SOFT ? 2 : 1, form.firmness, form.full_steps, 1 }, wanted);
-  if (call_write(pair->table[0], pair->length[0], out) == length && memcmp(out, wanted, length) == 0) return;
-  printf("%s: the shortest form is wrong, or refused\n", pair->name);
+  if (timed->call(pair->table[1], pair->length[1], out) == length && memcmp(out, wanted, length) == 0) return;
+  printf("%s: %s: the shortest form is wrong, or refused\n", timed->name, pair->name);
   exit(1);
 }
+// The first of a pair is read, and has its numbers in their fewest bytes.
 static void make_tables(Pairs *p, size_t nodes, Form form) {
   static Instance inst;
+  const Form forms[WAYS] = { form, { form.edition, form.firmness, form.full_steps, timed->width } };
   p->count = 0;
   for (size_t shape = 0; shape < shape_count(); shape++)
     for (int seed = 1; seed <= SEEDS; seed++) {
       make_shape(&inst, shape, nodes, nodes * EDGES_A_NODE, seed);
       Pair *pair = next_pair(p, inst.name);
-      for (int way = 0; way < WAYS; way++) pair->length[way] = write_form(&inst, form, pair->table[way]);
+      for (int way = 0; way < WAYS; way++) pair->length[way] = write_form(&inst, forms[way], pair->table[way]);
       check_written(pair, &inst, form);
     }
 }
@@ -85,6 +93,7 @@ static void add_group(Timing *r, PairMeans m) {
 // The times are of one call.
 static void run_group(Timing *r, size_t nodes, Form form) {
   Pairs *p = &r->pairs;
+  timed = r->work;
   make_tables(p, nodes, form);
   calls = r->calls;
   run_pairs(p);
@@ -95,15 +104,14 @@ static void run_group(Timing *r, size_t nodes, Form form) {
   add_group(r, means_of_pairs(p));
 }
 
-// The form by its three parts; the title says it in words.
-static Form choose_form(size_t nodes, int e, int w, int s) {
-  snprintf(title, MAX_TITLE, "%zu/%zu, %s, %s numbers, %s names", nodes, nodes * EDGES_A_NODE, editions[e].name, numbers[w].name,
-           steps[s].name);
-  return (Form){ editions[e].edition, editions[e].firmness, steps[s].full, numbers[w].width };
+// The form by its two parts; the title says it in words.
+static Form choose_form(size_t nodes, int e, int s) {
+  snprintf(title, MAX_TITLE, "%zu/%zu, %s, %s names", nodes, nodes * EDGES_A_NODE, editions[e].name, steps[s].name);
+  return (Form){ editions[e].edition, editions[e].firmness, steps[s].full, 1 };
 }
 static void print_head(const Timing *timings, int count) {
   printf("\n%-64s", "steps/edges, form; times in us, geometric means over the shapes");
-  for (int k = 0; k < count; k++) printf(" | %s: %s, writing, ratio, worst", timings[k].name, timings[k].pairs.way[0]);
+  for (int k = 0; k < count; k++) printf(" | %s: %s, %s, ratio, worst", timings[k].name, timings[k].pairs.way[0], timings[k].work->name);
   printf("\n");
 }
 // One line: a group, timed in all ways.
@@ -118,34 +126,38 @@ static void print_group(Timing *timings, int count, size_t nodes, Form form) {
 }
 static void print_forms(Timing *timings, int count, size_t nodes) {
   for (int e = 0; e < EDITIONS; e++)
-    for (int w = 0; w < WIDTHS; w++)
-      for (int s = 0; s < STEPS; s++) print_group(timings, count, nodes, choose_form(nodes, e, w, s));
+    for (int s = 0; s < STEPS; s++) print_group(timings, count, nodes, choose_form(nodes, e, s));
 }
 static void print_summary(const Timing *r) {
-  printf("Writing over reading, %s, %zu tables: geometric mean %.2f, worst %.2f (%s); goal: at most 2\n", r->name, r->tables,
-         exp(r->logs / r->groups), r->worst, r->worst_name);
+  printf("%s over reading, %s, %zu tables: geometric mean %.2f, worst %.2f (%s)%s\n", r->work->name, r->name, r->tables,
+         exp(r->logs / r->groups), r->worst, r->worst_name, r->work->goal);
 }
 
 static void open_timing(Timing *r, const char *first, Call call) {
   r->pairs.title = title;
   r->pairs.way[0] = first;
   r->pairs.call[0] = call;
-  r->pairs.way[1] = "writing";
+  r->pairs.way[1] = r->work->name;
   r->pairs.call[1] = write_tables;
+}
+static void print_work(Timing *timings, int count) {
+  for (int k = 0; k < count; k++) open_timing(&timings[k], "reading", read_tables);
+  print_head(timings, count);
+  for (size_t nodes = SMALLEST; nodes <= MAX_NODES; nodes *= 2) print_forms(timings, count, nodes);
+  for (int k = 0; k < count; k++) print_summary(&timings[k]);
 }
 
 int main(void) {
-  static Timing timings[] = { { .name = "in turn", .calls = 1 }, { .name = "back to back", .calls = 64 } };
-  static Timing rows = { .name = "in turn", .calls = 1 };
-  enum { TIMINGS = sizeof timings / sizeof *timings };
+  enum { TIMINGS = 2, MANY = 64 };
+  static Timing written[TIMINGS] = { { "in turn", 1, .work = &writing }, { "back to back", MANY, .work = &writing } };
+  static Timing converted[TIMINGS] = { { "in turn", 1, .work = &converting }, { "back to back", MANY, .work = &converting } };
+  static Timing rows = { "in turn", 1, .work = &writing };
   if (shape_count() * SEEDS > MAX_PAIRS) return 2;
-  for (int k = 0; k < TIMINGS; k++) open_timing(&timings[k], "reading", read_tables);
+  print_work(written, TIMINGS);
+  print_work(converted, TIMINGS);
   open_timing(&rows, "rows", find_rows);
-  print_head(timings, TIMINGS);
-  for (size_t nodes = SMALLEST; nodes <= MAX_NODES; nodes *= 2) print_forms(timings, TIMINGS, nodes);
-  for (int k = 0; k < TIMINGS; k++) print_summary(&timings[k]);
   print_head(&rows, 1);
-  for (size_t nodes = SMALLEST; nodes <= MAX_NODES; nodes *= 2) print_group(&rows, 1, nodes, choose_form(nodes, 0, 0, 0));
+  for (size_t nodes = SMALLEST; nodes <= MAX_NODES; nodes *= 2) print_group(&rows, 1, nodes, choose_form(nodes, 0, 0));
   printf("\nThe shortest form was right on every table.\n");
   return 0;
 }
