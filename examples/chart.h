@@ -49,6 +49,10 @@ typedef struct {
   Segment segment[MAX_SEGMENTS];
 } Chart;
 
+/* stored.c: whether the library takes the table only by the rule of tables stored before long forms of numbers were refused. Then its
+ * shortest form, which the library takes as any other table, stands in a buffer of YUVATONDRO_MAX_SHORTEST bytes, with its length. */
+int convert_stored(const uint8_t *table, size_t table_len, uint8_t *shortest, size_t *shortest_len);
+
 /* chart.c: asks the library for all that it has to say of the table; its last answer, which is a refusal or not. */
 uint64_t ask_chart(Chart *chart, const uint8_t *table, size_t table_len);
 

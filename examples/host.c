@@ -2,8 +2,9 @@
  *
  * Reads a table from a file, prints all that the calls of include/yuvatondro.h tell of it as lists and as a drawing in text, and, with a
  * second argument, draws the chart as a picture. With a third it writes the shortest form of the table to a file, also of a table that
- * has no chart; two tables say the same just if these files are equal. chart.c has the calls. What the calls do not hand out is not shown,
- * with one exception: the edges, which edges.c reads. So a step has its name, but not its kind.
+ * has no chart; two tables say the same just if these files are equal. A table that was stored in long forms of numbers is converted
+ * first, and a message says so. chart.c has the calls. What the calls do not hand out is not shown, with one exception: the edges, which
+ * edges.c reads. So a step has its name, but not its kind.
  *
  * Ends with status 0; with 1 if the table is refused, after printing what is known of it; with 2 for trouble with the arguments or files.
  */
@@ -12,7 +13,7 @@
 
 #include "chart.h"
 
-/* No accepted table is longer than 4,489 bytes, and a longer file is refused for the same reason as its first 8,192 bytes. */
+/* No table is longer than 4,489 bytes, stored ones included, and a longer file is refused for the same reason as its first 8,192 bytes. */
 enum { ROOM = 8192, REFUSED = 1, TROUBLE = 2 };
 
 static int report(const char *path) {
@@ -57,6 +58,15 @@ static int show_chart(Chart *chart, uint64_t answer, const char *svg, const char
   return svg == NULL ? 0 : write_file(svg, chart, draw_svg);
 }
 
+/* Asks for the chart of the table, or, if it has long forms, of what it is converted to. */
+static uint64_t ask_stored(Chart *chart, const uint8_t *table, size_t table_len) {
+  static uint8_t shortest[YUVATONDRO_MAX_SHORTEST];
+  size_t shortest_len;
+  if (!convert_stored(table, table_len, shortest, &shortest_len)) return ask_chart(chart, table, table_len);
+  fprintf(stderr, "host: a stored table in long forms of numbers, converted from %zu bytes to %zu\n", table_len, shortest_len);
+  return ask_chart(chart, shortest, shortest_len);
+}
+
 int main(int argc, char **argv) {
   static uint8_t table[ROOM];
   static Chart chart;
@@ -67,5 +77,5 @@ int main(int argc, char **argv) {
   }
   int status = read_table(argv[1], table, &table_len);
   if (status != 0) return status;
-  return show_chart(&chart, ask_chart(&chart, table, table_len), argc > 2 ? argv[2] : NULL, argc > 3 ? argv[3] : NULL);
+  return show_chart(&chart, ask_stored(&chart, table, table_len), argc > 2 ? argv[2] : NULL, argc > 3 ? argv[3] : NULL);
 }

@@ -3,7 +3,9 @@
 
 static const char *const sentences[] = {
     [YUVATONDRO_CUT] = "the table ends in the middle; the file was cut short, copy or write it again",
-    [YUVATONDRO_OVERLONG] = "a number of the table takes more than three bytes; this is no table, or a damaged one",
+    [YUVATONDRO_OVERLONG] =
+        "a number of the table takes more than three bytes, or more than it needs, and the table cannot be converted; "
+        "this is no table, or a damaged one",
     [YUVATONDRO_BAD_EDITION] = "the table is not of edition 1 or 2; it is no table, or one for another release",
     [YUVATONDRO_MANY_STEPS] = "the table has more than 64 steps; split the alignment into several tables",
     [YUVATONDRO_BAD_KIND] = "a step is neither a check nor an adjustment nor a wait; correct its kind",
