@@ -1,16 +1,17 @@
 -- From the page to the call: what stands on the page, and the outcome of the call by cases.
 use mathlib.Core.Path.{_≡_, refl, sym, ap, subst, _∙_}
 use mathlib.Core.Bool.{Bool, true, false}
-use mathlib.Core.List.{List, [], _∷_, _++_}
+use mathlib.Core.List.{List, [], _∷_}
 use Prim.Native.Nat.{ℕ, _+_, _≤_, _<_}
 use native.Mathlib.Omega.{arith}
 use borrow.Author.Tests.{le-leb, lt-leb, leb-true}
 use lib.Dec.{leb}
-use lib.ListN.{length, take, drop}
+use lib.ListN.{length, take}
 use Rattle.outcome.specs.declared.Refusal.{Refusal}
 use Rattle.outcome.specs.declared.Refusal.the-variants.{ShortBuffer}
-use Rattle.outcome.specs.Refusal.{Outcome, done, refused, demand, stepOf, refusalIn}
+use Rattle.outcome.specs.Refusal.{done, refused, demand}
 use Rattle.outcome.proofs.ToldLaws.{told-refused, told-done}
+use Rattle.table.specs.declared.rule.Rule.{Rule}
 use Rattle.table.specs.declared.rule.Rule.the-variants.{Old}
 use Rattle.buffers.specs.Written.{Stored}
 use Rattle.buffers.proofs.WriteLaws.{stored-long, written-is, written-take}
@@ -20,16 +21,30 @@ use Rattle.encoding.specs.Limits.{maxShortest}
 use Rattle.writing.specs.declared.WriteAnswer.{WriteAnswer}
 use Rattle.writing.specs.declared.WriteAnswer.the-variants.{Written, Refused}
 use Rattle.writing.specs.Calls.{shortenedBy, fitted, putOut, countOf, writeCallBy, writeNumbers}
-use Rattle.writing.proofs.CallLaws.{fitted-is, write-alone}
+use Rattle.writing.proofs.CallLaws.{write-alone}
 use Rattle.writing.proofs.BufferLaws.{enough-any}
 use Rattle.converting.specs.Calls.{conversion, converted, convertCall}
 use Rattle.converting.proofs.ConvertLaws.{converted-short}
 
 -- ---- the page
 
+-- what the writer leaves where it refuses, by whichever rule it reads: the page as it was, with room for the line
+module _ (rule : Rule) (bytes page page₁ : List ℕ) (wide : maxShortest ≤ length page) (a : WriteAnswer)
+    (n : writeNumbers a ≡ writeCallBy rule bytes page .numbers) (o : page₁ ≡ writeCallBy rule bytes page .out) {f : Refusal} (v : a ≡ Refused f) where
+  out-is : fitted (shortenedBy rule bytes) page ≡ refused f
+  unfolding writeCallBy
+  out-is = told-refused countOf (fitted (shortenedBy rule bytes) page) (sym (ap writeNumbers v) ∙ n)
+
+  page-is : page₁ ≡ page
+  unfolding writeCallBy
+  page-is = o ∙ ap (λ x. putOut x page) out-is
+
+  pub page-room : length (refusalText f) ≤ length page₁
+  page-room = omega (arith, refusal-short f (omega (arith, write-alone rule bytes page {a = a} n v)), ap length page-is)
+
+-- what is on the page then, read by the old rule: no table is too long for it, so that only the reader refuses
 module _ (bytes page page₁ : List ℕ) (wide : maxShortest ≤ length page) (a : WriteAnswer)
     (n : writeNumbers a ≡ writeCallBy Old bytes page .numbers) (o : page₁ ≡ writeCallBy Old bytes page .out) where
-  -- the table is on the page
   pub page-table : {len : ℕ} → a ≡ Written len → Stored page 0 (converted bytes) page₁ len
   unfolding writeCallBy converted
   page-table {len} v =
@@ -44,22 +59,11 @@ module _ (bytes page page₁ : List ℕ) (wide : maxShortest ≤ length page) (a
         counts = omega arith;
       })
 
-  module _ {f : Refusal} (v : a ≡ Refused f) where
-    out-is : shortenedBy Old bytes ≡ refused f
-    unfolding writeCallBy
-    out-is = sym (enough-any Old bytes page wide) ∙ told-refused countOf (fitted (shortenedBy Old bytes) page) (sym (ap writeNumbers v) ∙ n)
-
-    -- the page is as it was
-    page-is : page₁ ≡ page
-    unfolding writeCallBy
-    page-is = o ∙ ap (λ x. putOut x page) (enough-any Old bytes page wide ∙ out-is)
-
-    pub page-room : length (refusalText f) ≤ length page₁
-    page-room = omega (arith, refusal-short f (omega (arith, write-alone Old bytes page {a = a} n v)), ap length page-is)
-
-    pub page-line : {page₂ : List ℕ} {len : ℕ} → Stored page₁ 0 (refusalText f) page₂ len → Stored page 0 (converted bytes) page₂ len
-    unfolding converted
-    page-line {page₂} {len} s = rw out-is (subst (λ l. Stored l 0 (refusalText f) page₂ len) page-is s)
+  pub page-line : {f : Refusal} → a ≡ Refused f → {page₂ : List ℕ} {len : ℕ} → Stored page₁ 0 (refusalText f) page₂ len → Stored page 0 (converted bytes) page₂ len
+  unfolding converted
+  page-line {f} v {page₂} {len} s =
+      let is : shortenedBy Old bytes ≡ refused f = sym (enough-any Old bytes page wide) ∙ out-is Old bytes page page₁ wide a n o v in
+      rw is (subst (λ l. Stored l 0 (refusalText f) page₂ len) (page-is Old bytes page page₁ wide a n o v) s)
 
 -- ---- the call
 

@@ -49,11 +49,16 @@ module _ (bytes : List ℕ) {c : Contents} (e : readBy Old bytes ≡ done c) whe
   unfolding converted
   converted-again = ap converted converted-is ∙ ap conversion (shortest-again Old bytes e) ∙ sym converted-is
 
-  -- Two stored tables that say the same become the same bytes, and two that do not become different ones.
-  module _ (other : List ℕ) {d : Contents} (f : readBy Old other ≡ done d) where
-    pub same-converted : said bytes c ≡ said other d → converted bytes ≡ converted other
-    unfolding converted
-    same-converted h = ap conversion (same-bytes Old bytes e Old other f h)
+-- Two stored tables that say the same become the same bytes, and two that do not become different ones.
+module _ (bytes : List ℕ) {c : Contents} (e : readBy Old bytes ≡ done c) (other : List ℕ) {d : Contents} (f : readBy Old other ≡ done d) where
+  pub same-converted : said bytes c ≡ said other d → converted bytes ≡ converted other
+  unfolding converted
+  same-converted h = ap conversion (same-bytes Old bytes e Old other f h)
+
+  pub converted-same : converted bytes ≡ converted other → said bytes c ≡ said other d
+  converted-same h =
+      same-said Old bytes e Old other f
+      (shortened-is bytes e ∙ ap done (sym (converted-is bytes e) ∙ h ∙ converted-is other f) ∙ sym (shortened-is other f))
 
 -- a table of today becomes what the writer makes of it
 pub converted-today : (bytes : List ℕ) {c : Contents} → read bytes ≡ done c → shortened bytes ≡ done (converted bytes)

@@ -136,8 +136,8 @@ call-refused rule bytes old e = (rw e, rw e)
 
 -- ---- from the answer back to the outcome
 
--- what was handed out fits the buffer
-pub fitted-is : (what : Outcome (List ℕ)) (old : List ℕ) {text : List ℕ} → fitted what old ≡ done text → what ≡ done text
+-- what fits a buffer is what was to be written
+fitted-is : (what : Outcome (List ℕ)) (old : List ℕ) {text : List ℕ} → fitted what old ≡ done text → what ≡ done text
 unfolding fitted
 fitted-is (done t) old {text} e = go (leb (length t) (length old)) e
   where

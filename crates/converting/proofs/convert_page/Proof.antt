@@ -14,7 +14,7 @@ enum-known-f : tie.Need-enum-known-f
 enum-known-f c = search needs
 
 put-refusal-requires : tie.Need-put-refusal-requires
-put-refusal-requires c κs = page-room _ _ _ (c .before .before .before .before .before .before .before .before .before .before .pre) _ (c .before .before .before .before .before .before .write-table-by .ensures .0) (c .before .before .before .before .before .before .write-table-by .ensures .1) (c .before .before .f .given .1)
+put-refusal-requires c κs = page-room _ _ _ _ (c .before .before .before .before .before .before .before .before .before .before .pre) _ (c .before .before .before .before .before .before .write-table-by .ensures .0) (c .before .before .before .before .before .before .write-table-by .ensures .1) (c .before .before .f .given .1)
 
 same-length : tie.Need-same-length
 same-length c = search needs
