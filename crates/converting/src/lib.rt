@@ -2,11 +2,10 @@
 //
 // The call takes any input, ends, and has no condition. Its contract puts its answer, told in numbers, and the buffer equal to what a
 // definition of specs/Calls.antt makes of the input.
-use labels::text::put_text;
 use lines::put_refusal;
-use outcome::Refusal;
 use table::rule::Rule;
 use writing::WriteAnswer;
+use writing::fit_text;
 use writing::limits::MAX_SHORTEST;
 use writing::write_table_by;
 ghost use mathlib.Core.Path.{_≡_};
@@ -24,11 +23,7 @@ pub fn convert_table(bytes: &[u8], out: &mut [u8]) -> WriteAnswer
 {
     let mut page = [0u8; MAX_SHORTEST];
     let len = convert_page(bytes, &mut page);
-    if out.len() < len {
-        return WriteAnswer::Refused(Refusal::ShortBuffer);
-    }
-    put_text(&page[..len], out, 0);
-    WriteAnswer::Written(len)
+    fit_text(&page[..len], out)
 }
 
 // The same at the front of a page that is long enough for any table.

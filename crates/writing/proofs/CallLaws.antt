@@ -3,9 +3,8 @@
 use mathlib.Core.Path.{_≡_, refl, sym, ap, subst, _∙_}
 use mathlib.Core.Bool.{Bool, true, false}
 use mathlib.Core.List.{List}
-use Prim.Native.Nat.{ℕ, _+_, _≤_, _<_}
+use Prim.Native.Nat.{ℕ, _≤_, _<_}
 use native.Mathlib.Omega.{arith}
-use borrow.Author.Tests.{le-leb, lt-leb}
 use lib.Dec.{leb}
 use lib.ListN.{length, getD, take, List·getD-append}
 use Rattle.graph.specs.declared.Edge.{Edge}
@@ -26,15 +25,15 @@ use Rattle.table.proofs.RangeLaws.{read-alone-by}
 use Rattle.buffers.specs.Padded.{padded}
 use Rattle.buffers.specs.Written.{Stored}
 use Rattle.buffers.proofs.PaddedLaws.{padded-long, padded-front}
-use Rattle.buffers.proofs.WriteLaws.{stored-long, written-is, written-take}
 use Rattle.writing.specs.declared.WriteAnswer.{WriteAnswer}
 use Rattle.writing.specs.declared.WriteAnswer.the-variants.{Written, Refused}
 use Rattle.encoding.specs.Limits.{maxShortest}
 use Rattle.encoding.specs.Said.{said}
 use Rattle.encoding.specs.Shortest.{shortest}
-use Rattle.writing.specs.Calls.{shortenedBy, fitted, countOf, writeCallBy, writeNumbers}
+use Rattle.writing.specs.Calls.{shortenedBy, fitted, countOf, writeEnd, writeCallBy, writeNumbers}
 use Rattle.writing.specs.Writable.{WritableTable, tableSaid}
 use Rattle.writing.proofs.PageLaws.{table-bytes}
+use Rattle.writing.proofs.FittedLaws.{fitted-is, front-inside, front-is}
 
 -- ---- arrays
 
@@ -94,40 +93,22 @@ module _ (rule : Rule) (bytes : List ℕ) (t : TableRead) (h : Told t (readBy ru
   says : tableSaid bytes (t .table) ≡ said bytes (h .contents)
   says = ap (tableSaid bytes) table-is ∙ said-of rule bytes (h .contents) (h .outcome)
 
-  -- ---- the buffer
+  -- ---- the page
 
   module _ (old page page₁ : List ℕ) (len : ℕ) (wide : maxShortest ≤ length page) (s : Stored page 0 (shortest (tableSaid bytes (t .table))) page₁ len) where
     on-page : Stored page 0 (shortest (said bytes (h .contents))) page₁ len
     on-page = subst (λ w. Stored page 0 (shortest w) page₁ len) says s
 
-    len-is : len ≡ length (shortest (said bytes (h .contents)))
-    len-is = omega (arith, on-page .counts)
-
     fits : length (shortest (said bytes (h .contents))) ≤ length page
     fits = omega (arith, shortest-bytes rule bytes (h .contents) (h .outcome))
 
     pub page-inside : len ≤ length page₁
-    page-inside = omega (arith, len-is, fits, stored-long on-page)
+    page-inside = front-inside page page₁ len fits on-page
 
-    page-front : take len page₁ ≡ shortest (said bytes (h .contents))
-    page-front = rw (len-is, on-page .holds) (written-take page (shortest (said bytes (h .contents))) fits)
-
-    pub page-room : len ≤ length old → 0 + length (take len page₁) ≤ length old
-    page-room l = omega (arith, ap length page-front, len-is)
-
-    pub call-short : length old < len → (writeNumbers (Refused ShortBuffer) ≡ writeCallBy rule bytes old .numbers) × (old ≡ writeCallBy rule bytes old .out)
-    unfolding writeCallBy fitted shortenedBy
-    call-short l =
-        let b = lt-leb (length (shortest (said bytes (h .contents)))) (length old) (omega (arith, len-is)) in
-        (rw (h .outcome, b), rw (h .outcome, b))
-
-    pub call-written : (new : List ℕ) (p : ℕ) → len ≤ length old → Stored old 0 (take len page₁) new p
-        → (writeNumbers (Written len) ≡ writeCallBy rule bytes old .numbers) × (new ≡ writeCallBy rule bytes old .out)
-    unfolding writeCallBy fitted shortenedBy
-    call-written new p l u =
-        let b = le-leb (length (shortest (said bytes (h .contents)))) (length old) (omega (arith, len-is)) in
-        let v : Stored old 0 (shortest (said bytes (h .contents))) new p = subst (λ w. Stored old 0 w new p) page-front u in
-        (rw (h .outcome, b, len-is), rw (h .outcome, b) (v .holds ∙ written-is old (shortest (said bytes (h .contents))) (omega (arith, len-is))))
+    -- what is handed out of it is the shortest table
+    pub call-fitted : writeEnd (done (take len page₁)) old ≡ writeCallBy rule bytes old
+    unfolding writeCallBy shortenedBy
+    call-fitted = rw (h .outcome, front-is page page₁ len fits on-page)
 
 pub call-refused : (rule : Rule) (bytes old : List ℕ) {f : Refusal} → readBy rule bytes ≡ refused f
     → (writeNumbers (Refused f) ≡ writeCallBy rule bytes old .numbers) × (old ≡ writeCallBy rule bytes old .out)
@@ -135,16 +116,6 @@ unfolding writeCallBy fitted shortenedBy
 call-refused rule bytes old e = (rw e, rw e)
 
 -- ---- from the answer back to the outcome
-
--- what fits a buffer is what was to be written
-fitted-is : (what : Outcome (List ℕ)) (old : List ℕ) {text : List ℕ} → fitted what old ≡ done text → what ≡ done text
-unfolding fitted
-fitted-is (done t) old {text} e = go (leb (length t) (length old)) e
-  where
-    go : (b : Bool) → demand b ShortBuffer (done t) ≡ done text → done t ≡ done text
-    go true e = e
-    go false e = let z : _≡_ {A = ℕ} 0 1 = cc in absurd (omega arith)
-fitted-is (refused r) old e = e
 
 -- a refusal is the reader's or 13, and no step comes with either
 out-alone : (rule : Rule) (bytes old : List ℕ) {f : Refusal} → fitted (shortenedBy rule bytes) old ≡ refused f → stepOf f ≡ 0

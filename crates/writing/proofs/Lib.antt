@@ -1,4 +1,4 @@
--- Laws by subject. A layer above wants TableLaws and BufferLaws, and CallLaws for what an answer tells.
+-- Laws by subject. A layer above wants TableLaws and BufferLaws, CallLaws for what an answer tells, and FittedLaws to hand out bytes of its own.
 pub mod StandsLaws
 pub mod BackLaws
 pub mod EachLaws
@@ -7,5 +7,6 @@ pub mod EdgeLaws
 pub mod TableLaws
 pub mod StarredLaws
 mod PageLaws
+pub mod FittedLaws
 pub mod CallLaws
 pub mod BufferLaws

@@ -18,10 +18,11 @@ use table::types::Table;
 ghost use mathlib.Core.Path.{_≡_};
 ghost use Prim.Native.Nat.{_≤_};
 ghost use lib.ListN.{length};
+ghost use Rattle.outcome.specs.Refusal.{done};
 ghost use Rattle.buffers.specs.Written.{Stored};
 ghost use Rattle.encoding.specs.Limits.{maxShortest};
 ghost use Rattle.encoding.specs.Shortest.{shortest};
-ghost use Rattle.writing.specs.Calls.{writeNumbers, writeCall, writeCallBy};
+ghost use Rattle.writing.specs.Calls.{writeNumbers, writeEnd, writeCall, writeCallBy};
 ghost use Rattle.writing.specs.Writable.{WritableTable, tableSaid};
 
 // The shortest table is in the first bytes of the buffer, so many; or there is none, and why.
@@ -52,13 +53,22 @@ pub fn write_table_by(rule: Rule, bytes: &[u8], out: &mut [u8]) -> WriteAnswer
             let table = t.table;
             let mut page = [0u8; MAX_SHORTEST];
             let len = write_page(bytes, table, &mut page);
-            if out.len() < len {
-                return WriteAnswer::Refused(Refusal::ShortBuffer);
-            }
-            put_text(&page[..len], out, 0);
-            WriteAnswer::Written(len)
+            fit_text(&page[..len], out)
         }
     }
+}
+
+// Bytes that were made on a page, to a lent buffer that has room for them.
+pub fn fit_text(text: &[u8], out: &mut [u8]) -> WriteAnswer
+    ensures { λ r. ⌜ writeNumbers r ≡ writeEnd (done (now (text .entry))) (now (out .entry)) .numbers ⌝ }
+    ensures { λ _. ⌜ now (out .exit) ≡ writeEnd (done (now (text .entry))) (now (out .entry)) .out ⌝ }
+{
+    let len = text.len();
+    if out.len() < len {
+        return WriteAnswer::Refused(Refusal::ShortBuffer);
+    }
+    put_text(text, out, 0);
+    WriteAnswer::Written(len)
 }
 
 // The edition, the steps and the edges, at the front of a page.

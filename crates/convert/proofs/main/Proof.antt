@@ -5,7 +5,7 @@ use lib.ListN.{replicate}
 use lib.Seq.{length-take-le}
 use Rattle.encoding.specs.Limits.{maxShortest}
 use Rattle.writing.specs.Calls.{writeNumbers}
-use Rattle.converting.proofs.CallLaws.{written-fits}
+use Rattle.converting.proofs.CallLaws.{call-inside}
 use borrow.Author.Needs.{needs}
 use Rattle.convert.proofs.main.Statement.{statement}
 use Rattle.convert.proofs.main.Tie as tie
@@ -32,10 +32,10 @@ enum-known-len : tie.Need-enum-known-len
 enum-known-len c = search needs
 
 array-share-prefix-page : tie.Need-array-share-prefix-page
-array-share-prefix-page c = let f = written-fits _ (replicate maxShortest 0) (sym (ap writeNumbers (c .before .len .given .1)) ∙ c .before .before .before .before .convert-table .ensures .0) in omega (arith, f, c .before .before .before .before .convert-table .kept .1 .0)
+array-share-prefix-page c = let f = call-inside _ (replicate maxShortest 0) (sym (ap writeNumbers (c .before .len .given .1)) ∙ c .before .before .before .before .convert-table .ensures .0) in omega (arith, f, c .before .before .before .before .convert-table .kept .1 .0)
 
 slice-aggregate-write-all : tie.Need-slice-aggregate-write-all
-slice-aggregate-write-all c = let f = written-fits _ (replicate maxShortest 0) (sym (ap writeNumbers (c .before .before .len .given .1)) ∙ c .before .before .before .before .before .convert-table .ensures .0) in sym (length-take-le _ _ (omega (arith, f, c .before .before .before .before .before .convert-table .kept .1 .0)))
+slice-aggregate-write-all c = let f = call-inside _ (replicate maxShortest 0) (sym (ap writeNumbers (c .before .before .len .given .1)) ∙ c .before .before .before .before .before .convert-table .ensures .0) in sym (length-take-le _ _ (omega (arith, f, c .before .before .before .before .before .convert-table .kept .1 .0)))
 
 write-all-requires : tie.Need-write-all-requires
 write-all-requires c κs = search needs

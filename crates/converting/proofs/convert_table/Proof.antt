@@ -1,11 +1,11 @@
--- `convert_table` meets its contract: a buffer that is long enough gets what is on the page.
+-- `convert_table` meets its contract: what is on the page is handed out.
 use native.Mathlib.Omega.{arith}
-use mathlib.Core.Path.{sym}
+use mathlib.Core.Path.{sym, ap, _∙_}
 use denote.Ref.{now}
 use lib.ListN.{replicate}
 use lib.Seq.{length-take-le}
 use Rattle.encoding.specs.Limits.{maxShortest}
-use Rattle.converting.proofs.CallLaws.{page-inside, front-room, call-short, call-written}
+use Rattle.converting.proofs.CallLaws.{page-inside, call-fitted}
 use borrow.Author.Needs.{needs}
 use Rattle.converting.proofs.convert_table.Statement.{statement}
 use Rattle.converting.proofs.convert_table.Tie as tie
@@ -16,23 +16,20 @@ slice-aggregate-convert-page c = search needs
 convert-page-requires : tie.Need-convert-page-requires
 convert-page-requires c κs = search needs
 
-returns : tie.Need-returns
-returns c = call-short _ (now (c .before .before .before .before .before .before .args .out)) (replicate maxShortest 0) _ _ (omega arith) (c .before .before .convert-page .ensures) (omega (arith, c .if1 .taken))
-
 array-share-prefix-page : tie.Need-array-share-prefix-page
-array-share-prefix-page c = page-inside _ (now (c .before .before .before .before .before .before .args .out)) (replicate maxShortest 0) _ _ (omega arith) (c .before .before .convert-page .ensures)
+array-share-prefix-page c = omega (arith, page-inside _ (now (c .before .before .before .before .before .args .out)) (replicate maxShortest 0) _ _ (omega arith) (c .before .convert-page .ensures))
 
-slice-aggregate-put-text : tie.Need-slice-aggregate-put-text
-slice-aggregate-put-text c = sym (length-take-le _ _ (page-inside _ (now (c .before .before .before .before .before .before .before .args .out)) (replicate maxShortest 0) _ _ (omega arith) (c .before .before .before .convert-page .ensures)))
+slice-aggregate-fit-text : tie.Need-slice-aggregate-fit-text
+slice-aggregate-fit-text c = sym (length-take-le _ _ (omega (arith, page-inside _ (now (c .before .before .before .before .before .before .args .out)) (replicate maxShortest 0) _ _ (omega arith) (c .before .before .convert-page .ensures))))
 
-put-text-requires : tie.Need-put-text-requires
-put-text-requires c κs = front-room _ (now (c .before .before .before .before .before .before .before .before .args .out)) (replicate maxShortest 0) _ _ (omega arith) (c .before .before .before .before .convert-page .ensures) (omega (arith, c .before .before .if1 .left))
+fit-text-requires : tie.Need-fit-text-requires
+fit-text-requires c κs = search needs
 
 same-length : tie.Need-same-length
 same-length c = search needs
 
-returns-2 : tie.Need-returns-2
-returns-2 c = call-written _ (now (c .before .before .before .before .before .before .before .before .before .before .before .args .out)) (replicate maxShortest 0) _ _ (omega arith) (c .before .before .before .before .before .before .before .convert-page .ensures) _ _ (omega (arith, c .before .before .before .before .before .if1 .left)) (c .before .before .put-text .ensures)
+returns : tie.Need-returns
+returns c = let e = call-fitted _ (now (c .before .before .before .before .before .before .before .before .before .before .args .out)) (replicate maxShortest 0) _ _ (omega arith) (c .before .before .before .before .before .before .convert-page .ensures) in (c .before .before .fit-text .ensures .0 ∙ ap (λ x. x .numbers) e, c .before .before .fit-text .ensures .1 ∙ ap (λ x. x .out) e)
 
 pub convert-table-spec : {M : Type 1} → statement M
 convert-table-spec =
@@ -40,9 +37,8 @@ convert-table-spec =
     (tie.spec
     slice-aggregate-convert-page
     convert-page-requires
-    returns
     array-share-prefix-page
-    slice-aggregate-put-text
-    put-text-requires
+    slice-aggregate-fit-text
+    fit-text-requires
     same-length
-    returns-2)
+    returns)

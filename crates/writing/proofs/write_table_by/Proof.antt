@@ -1,12 +1,12 @@
--- The page has the shortest table at its front; a buffer that is long enough gets it.
+-- The page has the shortest table at its front, and that part of it is handed out.
 use native.Mathlib.Omega.{arith}
-use mathlib.Core.Path.{sym}
+use mathlib.Core.Path.{sym, ap, _∙_}
 use denote.Ref.{now}
 use lib.ListN.{replicate}
 use lib.Seq.{length-take-le}
 use Rattle.table.proofs.AnswerLaws.{read-refused-by, read-accepted-by}
 use Rattle.encoding.specs.Limits.{maxShortest}
-use Rattle.writing.proofs.CallLaws.{writable, page-inside, page-room, call-short, call-written, call-refused}
+use Rattle.writing.proofs.CallLaws.{writable, page-inside, call-fitted, call-refused}
 use borrow.Author.Needs.{needs}
 use Rattle.writing.proofs.write_table_by.Statement.{statement}
 use Rattle.writing.proofs.write_table_by.Tie as tie
@@ -26,26 +26,23 @@ slice-aggregate-write-page c = search needs
 write-page-requires : tie.Need-write-page-requires
 write-page-requires c κs = let t = read-accepted-by _ _ _ (c .before .before .before .before .read-table-by .ensures) (c .before .before .enum-told .given .1) in (writable _ _ _ t, omega arith)
 
-returns : tie.Need-returns
-returns c = let s = c .before .before .before .before .before .before .before .before .before .before .args in let t = read-accepted-by _ _ _ (c .before .before .before .before .before .before .before .read-table-by .ensures) (c .before .before .before .before .before .enum-told .given .1) in call-short _ _ _ t (now (s .out)) (replicate maxShortest 0) _ _ (omega arith) (c .before .before .write-page .ensures) (omega (arith, c .if1 .taken))
-
 array-share-prefix-page : tie.Need-array-share-prefix-page
-array-share-prefix-page c = let s = c .before .before .before .before .before .before .before .before .before .before .args in let t = read-accepted-by _ _ _ (c .before .before .before .before .before .before .before .read-table-by .ensures) (c .before .before .before .before .before .enum-told .given .1) in page-inside _ _ _ t (now (s .out)) (replicate maxShortest 0) _ _ (omega arith) (c .before .before .write-page .ensures)
+array-share-prefix-page c = let t = read-accepted-by _ _ _ (c .before .before .before .before .before .before .read-table-by .ensures) (c .before .before .before .before .enum-told .given .1) in page-inside _ _ _ t (now (c .before .before .before .before .before .before .before .before .before .args .out)) (replicate maxShortest 0) _ _ (omega arith) (c .before .write-page .ensures)
 
-slice-aggregate-put-text : tie.Need-slice-aggregate-put-text
-slice-aggregate-put-text c = let s = c .before .before .before .before .before .before .before .before .before .before .before .args in let t = read-accepted-by _ _ _ (c .before .before .before .before .before .before .before .before .read-table-by .ensures) (c .before .before .before .before .before .before .enum-told .given .1) in sym (length-take-le _ _ (page-inside _ _ _ t (now (s .out)) (replicate maxShortest 0) _ _ (omega arith) (c .before .before .before .write-page .ensures)))
+slice-aggregate-fit-text : tie.Need-slice-aggregate-fit-text
+slice-aggregate-fit-text c = let t = read-accepted-by _ _ _ (c .before .before .before .before .before .before .before .read-table-by .ensures) (c .before .before .before .before .before .enum-told .given .1) in sym (length-take-le _ _ (page-inside _ _ _ t (now (c .before .before .before .before .before .before .before .before .before .before .args .out)) (replicate maxShortest 0) _ _ (omega arith) (c .before .before .write-page .ensures)))
 
-put-text-requires : tie.Need-put-text-requires
-put-text-requires c κs = let s = c .before .before .before .before .before .before .before .before .before .before .before .before .args in let t = read-accepted-by _ _ _ (c .before .before .before .before .before .before .before .before .before .read-table-by .ensures) (c .before .before .before .before .before .before .before .enum-told .given .1) in page-room _ _ _ t (now (s .out)) (replicate maxShortest 0) _ _ (omega arith) (c .before .before .before .before .write-page .ensures) (c .before .before .if1 .left)
+fit-text-requires : tie.Need-fit-text-requires
+fit-text-requires c κs = search needs
 
-returns-2 : tie.Need-returns-2
-returns-2 c = call-refused _ (now (c .before .before .before .before .before .before .args .bytes)) (now (c .before .before .before .before .before .before .args .out)) (read-refused-by _ _ _ (c .before .before .before .read-table-by .ensures) (c .before .verdict .given .1))
+returns : tie.Need-returns
+returns c = call-refused _ (now (c .before .before .before .before .before .before .args .bytes)) (now (c .before .before .before .before .before .before .args .out)) (read-refused-by _ _ _ (c .before .before .before .read-table-by .ensures) (c .before .verdict .given .1))
 
 same-length : tie.Need-same-length
 same-length c = search needs
 
-returns-3 : tie.Need-returns-3
-returns-3 c = let s = c .before .before .before .before .before .before .before .before .before .before .before .before .before .before .before .args in let t = read-accepted-by _ _ _ (c .before .before .before .before .before .before .before .before .before .before .before .before .read-table-by .ensures) (c .before .before .before .before .before .before .before .before .before .before .enum-told .given .1) in call-written _ _ _ t (now (s .out)) (replicate maxShortest 0) _ _ (omega arith) (c .before .before .before .before .before .before .before .write-page .ensures) _ _ (c .before .before .before .before .before .if1 .left) (c .before .before .put-text .ensures)
+returns-2 : tie.Need-returns-2
+returns-2 c = let t = read-accepted-by _ _ _ (c .before .before .before .before .before .before .before .before .before .before .before .read-table-by .ensures) (c .before .before .before .before .before .before .before .before .before .enum-told .given .1) in let e = call-fitted _ _ _ t (now (c .before .before .before .before .before .before .before .before .before .before .before .before .before .before .args .out)) (replicate maxShortest 0) _ _ (omega arith) (c .before .before .before .before .before .before .write-page .ensures) in (c .before .before .fit-text .ensures .0 ∙ ap (λ x. x .numbers) e, c .before .before .fit-text .ensures .1 ∙ ap (λ x. x .out) e)
 
 pub write-table-by-spec : {M : Type 1} → statement M
 write-table-by-spec =
@@ -56,10 +53,9 @@ write-table-by-spec =
     enum-told
     slice-aggregate-write-page
     write-page-requires
-    returns
     array-share-prefix-page
-    slice-aggregate-put-text
-    put-text-requires
-    returns-2
+    slice-aggregate-fit-text
+    fit-text-requires
+    returns
     same-length
-    returns-3)
+    returns-2)
