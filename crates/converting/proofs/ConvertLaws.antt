@@ -26,7 +26,7 @@ use Rattle.encoding.specs.Shortest.{shortest}
 use Rattle.writing.specs.Calls.{shortenedBy, shortened}
 use Rattle.writing.specs.Sayable.{Says}
 use Rattle.writing.proofs.CallLaws.{shortest-bytes}
-use Rattle.writing.proofs.TableLaws.{written-back, converted-again as shortest-again, same-bytes, same-said}
+use Rattle.writing.proofs.TableLaws.{written-back, written-again, same-bytes, same-said}
 use Rattle.converting.specs.Calls.{conversion, converted, convertedInput}
 
 -- ---- a table that the old rule accepts
@@ -47,7 +47,7 @@ module _ (bytes : List ℕ) {c : Contents} (e : readBy Old bytes ≡ done c) whe
   -- to convert it again changes nothing
   pub converted-again : converted (converted bytes) ≡ converted bytes
   unfolding converted
-  converted-again = ap converted converted-is ∙ ap conversion (shortest-again Old bytes e) ∙ sym converted-is
+  converted-again = ap converted converted-is ∙ ap conversion (written-again Old bytes e Old) ∙ sym converted-is
 
 -- Two stored tables that say the same become the same bytes, and two that do not become different ones.
 module _ (bytes : List ℕ) {c : Contents} (e : readBy Old bytes ≡ done c) (other : List ℕ) {d : Contents} (f : readBy Old other ≡ done d) where

@@ -23,7 +23,7 @@ use Rattle.encoding.specs.Said.{SaidStep, Said, saidStep, said}
 use Rattle.encoding.specs.Shortest.{shortNumber, shortStep, editionFor, shortEdge, each, shortList, shortest}
 use Rattle.encoding.proofs.ShortLaws.{bytes-one}
 use Rattle.encoding.proofs.BoundLaws.{edition-low}
-use Rattle.writing.specs.Calls.{shortenedBy, shortened}
+use Rattle.writing.specs.Calls.{shortenedBy}
 use Rattle.writing.specs.Sayable.{Says, All, SayableStep, SayableEdge, Sayable}
 use Rattle.writing.proofs.StandsLaws.{Stands, stands-whole, stands-first, stands-then}
 use Rattle.writing.proofs.BackLaws.{limits-back, limits-short}
@@ -194,14 +194,11 @@ module _ (rule : Rule) (bytes : List ℕ) {c : Contents} (e : readBy rule bytes 
       → length (shortest (said bytes c)) ≤ length other
   none-shorter by other f same = subst (λ w. length (shortest w) ≤ length other) same (read-shortened by other f .short)
 
-  -- to write it again, by either rule, changes nothing
-  pub written-again : shortened (shortest (said bytes c)) ≡ done (shortest (said bytes c))
+  -- to write it again, read by either rule, changes nothing
+  pub written-again : (by : Rule) → shortenedBy by (shortest (said bytes c)) ≡ done (shortest (said bytes c))
   unfolding shortenedBy
-  written-again = rw (written-back .reads, written-back .says)
-
-  pub converted-again : shortenedBy Old (shortest (said bytes c)) ≡ done (shortest (said bytes c))
-  unfolding shortenedBy
-  converted-again = rw (read-old Shortest (shortest (said bytes c)) (written-back .reads), written-back .says)
+  written-again Old = rw (read-old Shortest (shortest (said bytes c)) (written-back .reads), written-back .says)
+  written-again Shortest = rw (written-back .reads, written-back .says)
 
   -- Two accepted tables that say the same have the same shortest form, and two that do not have not: so tables may be compared by the
   -- bytes of their shortest forms. What reads back from equal bytes is equal.
