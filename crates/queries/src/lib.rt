@@ -9,7 +9,7 @@ use crate::types::CountsAnswer;
 use crate::types::NameAnswer;
 use outcome::Refusal;
 use outcome::Verdict;
-use table::read_table;
+use reading::read_table;
 ghost use mathlib.Core.Path.{_≡_};
 ghost use Rattle.outcome.specs.Refusal.{refusalIn};
 ghost use Rattle.queries.specs.Calls.{countsNumbers, countsCall, nameNumbers, nameFound, nameCall, stretchOf, PartOf};

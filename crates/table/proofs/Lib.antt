@@ -1,4 +1,4 @@
-mod ThenLaws
+pub mod ThenLaws
 pub mod NumberLaws
 pub mod ManyLaws
 pub mod NameLaws

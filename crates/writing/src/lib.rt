@@ -12,7 +12,7 @@ use encoding::step::write_steps;
 use labels::text::put_text;
 use outcome::Refusal;
 use outcome::Verdict;
-use table::read_table_by;
+use reading::read_table_by;
 use table::rule::Rule;
 use table::types::Table;
 ghost use mathlib.Core.Path.{_≡_};

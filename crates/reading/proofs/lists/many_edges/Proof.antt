@@ -3,14 +3,14 @@ use mathlib.Core.Path.{sym, ap, _∙_}
 use Prim.Native.Nat.{_-_}
 use native.Mathlib.Nat.{lt-of-lt-of-le}
 use lib.Dec.{lit<}
 use Rattle.table.specs.Limits.{maxEdges}
 use Rattle.table.specs.Table.{tableEdgeAt}
 use Rattle.graph.specs.Directed.{noTableEdge}
 use Rattle.table.specs.Reads.{tableEdgeRead}
 use Rattle.buffers.proofs.IndexLaws.{next-fits, nearer, scaled}
 use Rattle.table.proofs.ListLaws.{Filling, filling-start, filling-next, filling-fault, filling-end}
-use Rattle.table.proofs.lists.many_edges.Statement.{statement}
-use Rattle.table.proofs.lists.many_edges.Tie as tie
+use Rattle.reading.proofs.lists.many_edges.Statement.{statement}
+use Rattle.reading.proofs.lists.many_edges.Tie as tie
 
 abbrev Inv-loop : tie.InvT-loop
 Inv-loop rule s edition n at m list₀ p₀ i₀ list p i = Filling (tableEdgeAt rule s edition n) maxEdges noTableEdge m at i list p

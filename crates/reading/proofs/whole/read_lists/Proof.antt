@@ -1,11 +1,11 @@
 -- `whole::read_lists` meets its contract: each return is one case of `listsAt`, and two arrays that were read are the padded lists.
 use mathlib.Core.Path.{sym, ap, _∙_}
 use Rattle.table.specs.Table.{outcome}
 use Rattle.table.specs.Calls.{tableRead}
 use Rattle.table.proofs.WholeLaws.{read-refused, read-accepted, read-count, lists-stop, lists-cut, lists-spare, lists-whole, table-whole}
 use Rattle.outcome.specs.declared.Verdict.the-variants.{Accepted}
-use Rattle.table.proofs.whole.read_lists.Statement.{statement}
-use Rattle.table.proofs.whole.read_lists.Tie as tie
+use Rattle.reading.proofs.whole.read_lists.Statement.{statement}
+use Rattle.reading.proofs.whole.read_lists.Tie as tie
 
 steps-at-requires : tie.Need-steps-at-requires
 steps-at-requires c κs = tt

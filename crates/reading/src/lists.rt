@@ -1,27 +1,27 @@
 // The steps and the edges of a table, each list behind its count.
-use crate::edge::TableEdgeRead;
-use crate::edge::table_edge_at;
-use crate::limits::MAX_EDGES;
-use crate::limits::MAX_STEPS;
-use crate::number::NumberRead;
-use crate::number::number_in;
-use crate::rule::Rule;
-use crate::step::StepRead;
-use crate::step::step_at;
-use crate::types::Kind;
-use crate::types::Step;
 use graph::TableEdge;
 use outcome::Refusal;
 use outcome::Verdict;
+use table::edge::TableEdgeRead;
+use table::edge::table_edge_at;
+use table::limits::MAX_EDGES;
+use table::limits::MAX_STEPS;
+use table::number::NumberRead;
+use table::number::number_in;
+use table::rule::Rule;
+use table::step::StepRead;
+use table::step::step_at;
+use table::types::Kind;
+use table::types::Step;
 ghost use mathlib.Core.Path.{_≡_};
 ghost use Prim.Native.Nat.{_≤_};
 ghost use lib.ListN.{replicate};
 ghost use Rattle.graph.specs.Directed.{noTableEdge};
 ghost use Rattle.table.specs.Limits.{maxSteps, maxEdges};
 ghost use Rattle.table.specs.Number.{fault, many};
 ghost use Rattle.table.specs.Table.{stepAt, stepsAt, tableEdgeAt, edgesAt};
 ghost use Rattle.table.specs.Calls.{noStep};
 ghost use Rattle.table.specs.Reads.{ListRead};
 
 pub type StepArray = [Step; MAX_STEPS];
 

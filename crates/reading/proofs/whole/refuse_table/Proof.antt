@@ -1,7 +1,7 @@
 -- `whole::refuse_table` meets its contract: blank arrays are padded empty lists.
 use Rattle.buffers.specs.Padded.{padded}
-use Rattle.table.proofs.whole.refuse_table.Statement.{statement}
-use Rattle.table.proofs.whole.refuse_table.Tie as tie
+use Rattle.reading.proofs.whole.refuse_table.Statement.{statement}
+use Rattle.reading.proofs.whole.refuse_table.Tie as tie
 
 blank-steps-requires : tie.Need-blank-steps-requires
 blank-steps-requires c κs = tt

@@ -3,15 +3,15 @@ use crate::lists::blank_edges;
 use crate::lists::blank_steps;
 use crate::lists::edges_at;
 use crate::lists::steps_at;
-use crate::rule::Rule;
-use crate::types::Table;
-use crate::types::TableRead;
 use outcome::Refusal;
 use outcome::Verdict;
+use table::rule::Rule;
+use table::types::Table;
+use table::types::TableRead;
 ghost use mathlib.Core.Path.{_≡_};
 ghost use Rattle.outcome.specs.Refusal.{refused};
 ghost use Rattle.table.specs.Table.{listsAt, outcome};
 ghost use Rattle.table.specs.Calls.{tableRead};
 
 // A refusal, with a blank table.
 pub fn refuse_table(f: Refusal) -> TableRead

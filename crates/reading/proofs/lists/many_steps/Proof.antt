@@ -3,14 +3,14 @@ use mathlib.Core.Path.{sym, ap, _∙_}
 use Prim.Native.Nat.{_-_}
 use native.Mathlib.Nat.{lt-of-lt-of-le}
 use lib.Dec.{lit<}
 use Rattle.table.specs.Limits.{maxSteps}
 use Rattle.table.specs.Table.{stepAt}
 use Rattle.table.specs.Calls.{noStep}
 use Rattle.table.specs.Reads.{stepRead}
 use Rattle.buffers.proofs.IndexLaws.{next-fits, nearer, scaled}
 use Rattle.table.proofs.ListLaws.{Filling, filling-start, filling-next, filling-fault, filling-end}
-use Rattle.table.proofs.lists.many_steps.Statement.{statement}
-use Rattle.table.proofs.lists.many_steps.Tie as tie
+use Rattle.reading.proofs.lists.many_steps.Statement.{statement}
+use Rattle.reading.proofs.lists.many_steps.Tie as tie
 
 abbrev Inv-loop : tie.InvT-loop
 Inv-loop rule s at n list₀ p₀ i₀ list p i = Filling (stepAt rule s) maxSteps noStep n at i list p

@@ -1,12 +1,12 @@
 -- `lists::steps_at` meets its contract: the count is within the limit, so the steps fit the array.
 use mathlib.Core.Path.{refl, sym, ap, _∙_}
 use Rattle.table.specs.Number.{numberRead}
 use Rattle.table.specs.Table.{stepsAt}
 use Rattle.table.proofs.NumberLaws.{in-limits}
 use Rattle.table.proofs.WholeLaws.{read-as}
 use Rattle.table.proofs.ThenLaws.{then-fault, then-got}
-use Rattle.table.proofs.lists.steps_at.Statement.{statement}
-use Rattle.table.proofs.lists.steps_at.Tie as tie
+use Rattle.reading.proofs.lists.steps_at.Statement.{statement}
+use Rattle.reading.proofs.lists.steps_at.Tie as tie
 
 number-in-requires : tie.Need-number-in-requires
 number-in-requires c κs = tt

@@ -1,12 +1,12 @@
 -- `read_table_by` meets its contract: the edition, then the lists, as in `tableAt`.
 use mathlib.Core.Path.{refl, sym, ap, _∙_}
 use Rattle.table.specs.Table.{tableAt, readBy, outcome}
 use Rattle.table.specs.Number.{numberRead}
 use Rattle.table.specs.Calls.{tableRead}
 use Rattle.table.proofs.ThenLaws.{then-fault, then-got}
 use Rattle.table.proofs.WholeReadLaws.{whole-read}
-use Rattle.table.proofs.read_table_by.Statement.{statement}
-use Rattle.table.proofs.read_table_by.Tie as tie
+use Rattle.reading.proofs.read_table_by.Statement.{statement}
+use Rattle.reading.proofs.read_table_by.Tie as tie
 
 number-in-requires : tie.Need-number-in-requires
 number-in-requires c κs = tt
