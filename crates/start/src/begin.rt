@@ -1,7 +1,7 @@
 // The start of the solver: rows, a flow at them, and supply and demand brought nearer to one another.
-use crate::forest::grow_forest;
 use crate::rows::start_rows;
 use buffers::clear_first;
+use hints::forest::grow_forest;
 use transport::load::load_edges;
 use transport::shift::sweep_forest;
 ghost use mathlib.Core.Path.{_≡_};

@@ -2,7 +2,4 @@
 // over a forest of tight edges does it. Where to begin is free, so almost all of it is a hint: rows are looked at before they are used, and
 // an edge before anything moves over it.
 pub mod begin;
-mod forest;
-mod order;
 mod rows;
-mod sink;

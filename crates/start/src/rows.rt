@@ -1,7 +1,7 @@
 // Rows to start with: the lowest ones, then nodes sunk, and a look at every edge.
-use crate::order::order_nodes;
-use crate::sink::sink_nodes;
 use buffers::copy_first;
+use hints::order::order_nodes;
+use hints::sink::sink_nodes;
 use relaxation::low::find_high;
 use relaxation::lowest::find_short;
 use relaxation::lowest::lowest_rows;

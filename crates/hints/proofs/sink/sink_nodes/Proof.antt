@@ -3,8 +3,8 @@ use mathlib.Core.Path.{_≡_, refl, _∙_}
 use native.Mathlib.Omega.{arith}
 use Prim.Native.Nat.{_-_}
 use lib.ListN.{length, drop}
-use Rattle.start.proofs.sink.sink_nodes.Statement.{statement}
-use Rattle.start.proofs.sink.sink_nodes.Tie as tie
+use Rattle.hints.proofs.sink.sink_nodes.Statement.{statement}
+use Rattle.hints.proofs.sink.sink_nodes.Tie as tie
 
 abbrev Inv-loop : tie.InvT-loop
 Inv-loop from to gap weight n y₀ net out-head out-next order i₀ y i = (length y ≡ length y₀) × (drop n y ≡ drop n y₀)

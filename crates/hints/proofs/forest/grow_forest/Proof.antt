@@ -3,8 +3,8 @@ use mathlib.Core.Path.{_≡_, refl, _∙_}
 use native.Mathlib.Omega.{arith}
 use Prim.Native.Nat.{_≤_, _-_}
 use lib.ListN.{length}
-use Rattle.start.proofs.forest.grow_forest.Statement.{statement}
-use Rattle.start.proofs.forest.grow_forest.Tie as tie
+use Rattle.hints.proofs.forest.grow_forest.Statement.{statement}
+use Rattle.hints.proofs.forest.grow_forest.Tie as tie
 
 abbrev Inv-loop : tie.InvT-loop
 Inv-loop from to gap y out-head out-next in-head in-next rank₀ parent₀ queue₀ order reached₀ i₀ rank parent queue reached i =

@@ -2,13 +2,13 @@ use borrow.Author.Needs.{needs}
 use mathlib.Core.Path.{_≡_, refl}
 use Prim.Native.Nat.{_-_}
 use lib.ListN.{length}
-use Rattle.start.proofs.sink.weigh_nodes.Statement.{statement}
-use Rattle.start.proofs.sink.weigh_nodes.Tie as tie
-use Rattle.start.proofs.sink.weigh_nodes.Reads as reads
-use Rattle.start.proofs.sink.weigh_nodes.Lts as lts
+use Rattle.hints.proofs.sink.weigh_nodes.Statement.{statement}
+use Rattle.hints.proofs.sink.weigh_nodes.Tie as tie
+use Rattle.hints.proofs.sink.weigh_nodes.Reads as reads
+use Rattle.hints.proofs.sink.weigh_nodes.Lts as lts
 use Rattle.buffers.proofs.clear_first.Reads as clear-first-reads
 use Rattle.buffers.proofs.read_entry.Reads as read-entry-reads
-use Rattle.start.proofs.sink.weigh_end.Reads as weigh-end-reads
+use Rattle.hints.proofs.sink.weigh_end.Reads as weigh-end-reads
 use Rattle.std.proofs.num.wrapping_sub_usize.Reads as wrapping-sub-usize-reads
 
 abbrev Inv-loop : tie.InvT-loop

@@ -3,8 +3,8 @@ use mathlib.Core.Path.{_≡_, refl, _∙_}
 use native.Mathlib.Omega.{arith}
 use Prim.Native.Nat.{_≤_}
 use lib.ListN.{length}
-use Rattle.start.proofs.forest.reach_list.Statement.{statement}
-use Rattle.start.proofs.forest.reach_list.Tie as tie
+use Rattle.hints.proofs.forest.reach_list.Statement.{statement}
+use Rattle.hints.proofs.forest.reach_list.Tie as tie
 
 abbrev Inv-loop : tie.InvT-loop
 Inv-loop gap y end next rank₀ parent₀ queue₀ link row below count k₀ reached₀ rank parent queue k reached =

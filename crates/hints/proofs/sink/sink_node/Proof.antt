@@ -2,12 +2,12 @@ use native.Mathlib.Omega.{arith}
 use lib.Seq.{drop-set-lt}
 use denote.Ref.{now}
 use borrow.Author.Needs.{needs}
-use Rattle.start.proofs.sink.sink_node.Statement.{statement}
-use Rattle.start.proofs.sink.sink_node.Tie as tie
-use Rattle.start.proofs.sink.sink_node.Reads as reads
-use Rattle.start.proofs.sink.sink_node.Lts as lts
+use Rattle.hints.proofs.sink.sink_node.Statement.{statement}
+use Rattle.hints.proofs.sink.sink_node.Tie as tie
+use Rattle.hints.proofs.sink.sink_node.Reads as reads
+use Rattle.hints.proofs.sink.sink_node.Lts as lts
 use Rattle.buffers.proofs.read_entry.Reads as read-entry-reads
-use Rattle.start.proofs.sink.list_room.Reads as list-room-reads
+use Rattle.hints.proofs.sink.list_room.Reads as list-room-reads
 
 -- src/sink.rt:77:9
 returns : tie.Need-returns

@@ -1,23 +1,25 @@
 use borrow.Author.Needs.{needs}
 use mathlib.Core.Path.{_≡_, refl}
-use lib.ListN.{length}
-use Rattle.start.proofs.order.put_list.Statement.{statement}
-use Rattle.start.proofs.order.put_list.Tie as tie
+use Rattle.hints.proofs.sink.list_room.Statement.{statement}
+use Rattle.hints.proofs.sink.list_room.Tie as tie
 
 abbrev Inv-loop : tie.InvT-loop
-Inv-loop next order₀ link i k₀ at₀ order k at = length order ≡ length order₀
+Inv-loop to gap y next link k₀ row₀ k row = k ≡ k
 
 abbrev μ-loop : tie.MeasureT-loop
-μ-loop next order₀ link i k₀ at₀ order k at = k
+μ-loop to gap y next link k₀ row₀ k row = k
 
 loop-holds : tie.Need-loop-holds Inv-loop μ-loop
 loop-holds c = refl
 
-sub-put-next : tie.Need-sub-put-next Inv-loop μ-loop
-sub-put-next c = search needs
+sub-edge-room : tie.Need-sub-edge-room Inv-loop μ-loop
+sub-edge-room c = search needs
 
-put-next-requires : tie.Need-put-next-requires Inv-loop μ-loop
-put-next-requires c κs = search needs
+edge-room-requires : tie.Need-edge-room-requires Inv-loop μ-loop
+edge-room-requires c κs = search needs
+
+smaller-of-requires : tie.Need-smaller-of-requires Inv-loop μ-loop
+smaller-of-requires c κs = search needs
 
 sub-next-link : tie.Need-sub-next-link Inv-loop μ-loop
 sub-next-link c = search needs
@@ -29,26 +31,23 @@ loop-less : tie.Need-loop-less Inv-loop μ-loop
 loop-less c = search needs
 
 loop-again : tie.Need-loop-again Inv-loop μ-loop
-loop-again c = search needs
-
-same-length : tie.Need-same-length Inv-loop μ-loop
-same-length c = search needs
+loop-again c = refl
 
 returns : tie.Need-returns Inv-loop μ-loop
 returns c = search needs
 
-pub put-list-spec : {M : Type 1} → statement M
-put-list-spec =
+pub list-room-spec : {M : Type 1} → statement M
+list-room-spec =
     tie.close
     (tie.spec
     Inv-loop
     μ-loop
     loop-holds
-    sub-put-next
-    put-next-requires
+    sub-edge-room
+    edge-room-requires
+    smaller-of-requires
     sub-next-link
     next-link-requires
     loop-less
     loop-again
-    same-length
     returns)
