@@ -39,12 +39,18 @@ enum {
   YUVATONDRO_BAD_FIRMNESS = 15  /* a firmness above 1 */
 };
 
-enum { YUVATONDRO_MAX_STEPS = 64, YUVATONDRO_MAX_EDGES = 192, YUVATONDRO_MAX_POINTS = 1024 };
+enum { YUVATONDRO_MAX_STEPS = 96, YUVATONDRO_MAX_EDGES = 288, YUVATONDRO_MAX_POINTS = 1024 };
 
-/* The bytes of the longest shortest form: an edition, a count, 64 steps, a count, 192 edges, each as long as it can be there:
- * 1 + 1 + 64 * (1 + 2 + 1 + 16) + 2 + 192 * (1 + 1 + 1 + 2 + 1). No accepted table is longer either, so a buffer of so many bytes
- * holds any. Only yuvatondro_convert takes longer ones, of up to 4,489 bytes. */
-enum { YUVATONDRO_MAX_SHORTEST = 2436 };
+/* No row is above this: a gap is at most 4. Of a table of n steps none is above 4 * (n - 1); so tables of at most 64 steps, the most
+ * there were up to version 1.3, have rows of at most 252, and lists of them that a host kept as bytes stay right. */
+enum { YUVATONDRO_MAX_ROW = 4 * (YUVATONDRO_MAX_STEPS - 1) };
+
+/* The bytes of the longest shortest form: the edition, a count and the steps, a count and the edges, each number in as many bytes as it can
+ * need there, and names of 16. No accepted table is longer either, so a buffer of so many bytes holds any. */
+enum { YUVATONDRO_MAX_SHORTEST = 1 + 1 + YUVATONDRO_MAX_STEPS * (1 + 2 + 1 + 16) + 2 + YUVATONDRO_MAX_EDGES * (1 + 1 + 1 + 2 + 1) };
+
+/* Only yuvatondro_convert takes longer ones: of up to so many bytes, each number in three. */
+enum { YUVATONDRO_MAX_STORED = 3 + 3 + YUVATONDRO_MAX_STEPS * (3 * 3 + 16) + 3 + YUVATONDRO_MAX_EDGES * (5 * 3) };
 
 /* The refusal of any answer, and the step that comes with refusal 11. */
 static inline unsigned yuvatondro_refusal(uint64_t answer) { return (unsigned)(answer & 0xFF); }
@@ -61,18 +67,18 @@ uint64_t yuvatondro_name(const uint8_t *table, size_t table_len, size_t step);
 static inline size_t yuvatondro_name_length(uint64_t name) { return (size_t)(name >> 8 & 0xFF); }
 static inline size_t yuvatondro_name_start(uint64_t name) { return (size_t)(name >> 16); }
 
-/* The rows of a table, one byte a step: feasible, of least weighted total among all feasible rows, and among those the lowest at every
+/* The rows of a table, one entry a step: feasible, of least weighted total among all feasible rows, and among those the lowest at every
  * step. Answers 0. Refuses by 1 to 10 and 15, then 11, 13.
  *
  * A table of edition 2 says of each edge whether it is must or soft; in edition 1 all are must. Must edges stand as they are, and a
  * loop of them is refused. Then come the soft ones, one after another as the table lists them. Where one would form a loop with edges
  * that stand, it is turned: its ends are exchanged, and its gap, weight and number stay. Else it is kept, and stands from then on. So
  * refusal 11 is never due to a soft edge, and the rows are those of all edges as kept or turned. */
-uint64_t yuvatondro_rows(const uint8_t *table, size_t table_len, uint8_t *rows, size_t rows_len);
+uint64_t yuvatondro_rows(const uint8_t *table, size_t table_len, uint16_t *rows, size_t rows_len);
 
 /* The same for edges without a table: `numbers` entries of `records`, four to an edge (from, to, gap, weight); fewer than four left
  * over are no edge. All are must. Refuses by 4, 8, then each edge in turn by 9 and 6, then 11, 13. */
-uint64_t yuvatondro_records(size_t steps, const size_t *records, size_t numbers, uint8_t *rows, size_t rows_len);
+uint64_t yuvatondro_records(size_t steps, const size_t *records, size_t numbers, uint16_t *rows, size_t rows_len);
 
 /* The whole chart of a table: its rows as above, and to `order` its points, row by row from row 0 and each row from left to right. A
  * step's point has the step's number; the dummies follow, by edge and then by rising row. Answers how many points there are, the
@@ -81,7 +87,7 @@ uint64_t yuvatondro_records(size_t steps, const size_t *records, size_t numbers,
  * Points, total and crossings too are of the edges as kept or turned. A drawing can tell from the rows which edges are turned: those
  * whose tail in the table stands in a larger row than their head. Such an edge has its dummies by rising row as well, so that its
  * first one is next to its head. */
-uint64_t yuvatondro_chart(const uint8_t *table, size_t table_len, uint8_t *rows, size_t rows_len, uint16_t *order, size_t order_len);
+uint64_t yuvatondro_chart(const uint8_t *table, size_t table_len, uint16_t *rows, size_t rows_len, uint16_t *order, size_t order_len);
 static inline unsigned yuvatondro_points(uint64_t chart) { return (unsigned)(chart >> 8 & 0x7FF); }
 static inline unsigned long yuvatondro_total(uint64_t chart) { return (unsigned long)(chart >> 19 & 0x1FFFFFF); }
 static inline unsigned long yuvatondro_crossings(uint64_t chart) { return (unsigned long)(chart >> 44); }

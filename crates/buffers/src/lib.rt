@@ -46,19 +46,7 @@ pub fn copy_front(values: &[usize], out: &mut [usize]) -> usize
     values.len()
 }
 
-// The first n numbers put at the front of a buffer of bytes.
-pub fn store_u8(values: &[usize], n: usize, out: &mut [u8])
-    requires { ⌜ n ≤ length (now values) ⌝ }
-    requires { ⌜ n ≤ length (now out) ⌝ }
-    requires { ⌜ ((i : ℕ) → i < n → at (now values) i < 0x100) ⌝ }
-    ensures { λ _. ⌜ now (out .exit) ≡ take n (now (values .entry)) ++ drop n (now (out .entry)) ⌝ }
-{
-    for i in 0..n {
-        out[i] = values[i] as u8;
-    }
-}
-
-// The same for a buffer of 16-bit numbers.
+// The first n numbers put at the front of a buffer of 16-bit numbers.
 pub fn store_u16(values: &[usize], n: usize, out: &mut [u16])
     requires { ⌜ n ≤ length (now values) ⌝ }
     requires { ⌜ n ≤ length (now out) ⌝ }

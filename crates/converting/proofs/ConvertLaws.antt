@@ -12,7 +12,7 @@ use Rattle.table.specs.declared.rule.Rule.{Rule}
 use Rattle.table.specs.declared.rule.Rule.the-variants.{Old, Shortest}
 use Rattle.table.specs.Limits.{maxTable, maxInput}
 use Rattle.table.specs.Number.{numberIn}
-use Rattle.table.specs.Table.{Contents, tableAt, readBy, read}
+use Rattle.table.specs.Table.{Contents, readBy, read, tableWithin, readWithin}
 use Rattle.table.proofs.NumberLaws.{one}
 use Rattle.table.proofs.FairLaws.{read-short-by}
 use Rattle.table.proofs.RangeLaws.{read-alone-by}
@@ -74,7 +74,7 @@ refusal-is bytes e = rw e
 -- The line of a refusal is no table by any rule: its first byte is a letter, which is no edition. So the first byte of what was written
 -- tells whether it is a table.
 pub line-refused : (rule : Rule) (f : Refusal) → readBy rule (refusalText f) ≡ refused BadEdition
-unfolding readBy tableAt numberIn
+unfolding readWithin tableWithin numberIn
 line-refused rule f = rw (one rule (refusalText f) 0 (omega arith) (omega arith))
 
 pub converted-refused : (rule : Rule) (bytes : List ℕ) {f : Refusal} → readBy Old bytes ≡ refused f → readBy rule (converted bytes) ≡ refused BadEdition

@@ -3,3 +3,4 @@ pub mod JudgeLaws
 pub mod CallLaws
 pub mod LentLaws
 pub mod StepLaws
+pub mod SizeLaws

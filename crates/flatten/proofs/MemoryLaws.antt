@@ -50,7 +50,7 @@ behind (call f xs p) = skip
 -- ---- an array of words
 
 abbrev pub Words : RattleType
-Words = Array usize 192
+Words = Array usize maxEdges
 
 -- a list of one value has that value
 abbrev pub only : List Val → Val
@@ -61,14 +61,14 @@ abbrev pub word : Ty
 word = tyInt w64
 
 abbrev pub array : Ty
-array = tyArray word 192
+array = tyArray word maxEdges
 
 -- the machine value of words
 abbrev pub mach : List ℕ → Val
 mach xs = only (array-vals (uint-vals w64) xs)
 
 abbrev pub zeros : Val
-zeros = arrayVal (replicate 192 (vint w64 0))
+zeros = arrayVal (replicate maxEdges (vint w64 0))
 
 module _ {M : Type 1} (𝓤 : URA M) (H : Heap 𝓤) (A : Atoms 𝓤) (W : Given 𝓤 H A) where
   -- an array in a local is its words in memory, and back
@@ -77,18 +77,18 @@ module _ {M : Type 1} (𝓤 : URA M) (H : Heap 𝓤) (A : Atoms 𝓤) (W : Given
   array-out l xs v =
       qed W (‵ (fat fullShare array l 0 v) ∷ ‵ (Words .own xs (v ∷ [])) ∷ []) ∵
       use1 W (‵ (cellAt fullShare (Words .mir) (v ∷ []) l 0)) (W .laws .at-raw fullShare array l 0 v) $ fjoin ! $ fpack ! (List Val) (λ us. fsep (cellAt fullShare (Words .mir) us l 0) (Words .own xs us)) (v ∷ []) $
-      use1 W (‵ (arr-parts (shares usize) 192 .part fullShare xs l 0)) (array-apart 𝓤 H A W usize fullShare tt 192 xs l 0) $ fsplit ! $ drop ! $ done !
+      use1 W (‵ (arr-parts (shares usize) maxEdges .part fullShare xs l 0)) (array-apart 𝓤 H A W usize fullShare tt maxEdges xs l 0) $ fsplit ! $ drop ! $ done !
 
   pub array-in : (l : ℕ) (xs : List ℕ) → length xs ≡ maxEdges → ent 𝓤 (sem 𝓤 H A (row usize fullShare xs l 0)) (⋆ 𝓤 H A (‵ (fat fullShare array l 0 (mach xs)) ∷ ‵ (Words .own xs (mach xs ∷ [])) ∷ []))
   unfolding partOf
   array-in l xs e =
-      qed W (‵ (row usize fullShare xs l 0) ∷ []) ∵ feqI ! ℕ (length xs) 192 e $ fjoin ! $
-      use1 W (‵ (partAt Words fullShare xs l 0)) (array-whole 𝓤 H A W usize fullShare 192 xs l 0) $ fpick ! (λ vs. fsplit ! $
-      spelt ! Words (Is Words) (shows 𝓤 H A Words) (array-vals (uint-vals w64)) (array-tells usize (uint-vals w64) (uint-tells w64) 192) fullShare xs vs l 0 $
+      qed W (‵ (row usize fullShare xs l 0) ∷ []) ∵ feqI ! ℕ (length xs) maxEdges e $ fjoin ! $
+      use1 W (‵ (partAt Words fullShare xs l 0)) (array-whole 𝓤 H A W usize fullShare maxEdges xs l 0) $ fpick ! (λ vs. fsplit ! $
+      spelt ! Words (Is Words) (shows 𝓤 H A Words) (array-vals (uint-vals w64)) (array-tells usize (uint-vals w64) (uint-tells w64) maxEdges) fullShare xs vs l 0 $
       use1 W (‵ (fat fullShare array l 0 (mach xs))) (W .laws .raw-at fullShare array l 0 (mach xs)) $ done !)
 
   pub array-typed : (xs : List ℕ) (v : Val) → Is Words xs (v ∷ []) → T (hasTy array v) × WT v
-  array-typed xs v is = array-lawful 𝓤 H A W usize (uint-lawful 𝓤 H A W w64) 192 .typed xs (v ∷ []) is .0
+  array-typed xs v is = array-lawful 𝓤 H A W usize (uint-lawful 𝓤 H A W w64) maxEdges .typed xs (v ∷ []) is .0
 
   pub word-typed : (i : ℕ) (v : Val) → Is usize i (v ∷ []) → T (hasTy word v) × WT v
   word-typed i v is = uint-lawful 𝓤 H A W w64 .typed i (v ∷ []) is .0

@@ -4,6 +4,7 @@
 use ordering::ChartAnswer;
 use queries::types::CountsAnswer;
 use queries::types::NameAnswer;
+use rows::types::Row;
 use rows::types::RowsAnswer;
 use table::rule::Rule;
 use words::counts_word;
@@ -78,9 +79,9 @@ fn write_by(rule: Rule, table: &[u8], out: &mut [u8]) -> u64
     }
 }
 
-// The rows of a table to a lent buffer, one byte a step.
+// The rows of a table to a lent buffer, one entry a step.
 #[no_mangle]
-pub extern "C" fn yuvatondro_rows(table: &[u8], rows: &mut [u8]) -> u64
+pub extern "C" fn yuvatondro_rows(table: &[u8], rows: &mut [Row]) -> u64
     ensures { λ r. ⌜ doneRead r ≡ rowsCall (now (table .entry)) (now (rows .entry)) .numbers ⌝ }
     ensures { λ r. ⌜ r ≡ doneWord (rowsCall (now (table .entry)) (now (rows .entry)) .numbers) ⌝ }
     ensures { λ _. ⌜ now (rows .exit) ≡ rowsCall (now (table .entry)) (now (rows .entry)) .rows ⌝ }
@@ -94,7 +95,7 @@ pub extern "C" fn yuvatondro_rows(table: &[u8], rows: &mut [u8]) -> u64
 
 // The same for edges that are lent as numbers, four to an edge.
 #[no_mangle]
-pub extern "C" fn yuvatondro_records(steps: usize, records: &[usize], rows: &mut [u8]) -> u64
+pub extern "C" fn yuvatondro_records(steps: usize, records: &[usize], rows: &mut [Row]) -> u64
     ensures { λ r. ⌜ doneRead r ≡ recordCall steps (recordsOf (now (records .entry))) (now (rows .entry)) .numbers ⌝ }
     ensures { λ r. ⌜ r ≡ doneWord (recordCall steps (recordsOf (now (records .entry))) (now (rows .entry)) .numbers) ⌝ }
     ensures { λ _. ⌜ now (rows .exit) ≡ recordCall steps (recordsOf (now (records .entry))) (now (rows .entry)) .rows ⌝ }
@@ -108,7 +109,7 @@ pub extern "C" fn yuvatondro_records(steps: usize, records: &[usize], rows: &mut
 
 // The whole chart of a table: rows as above, and the points row by row to a lent buffer.
 #[no_mangle]
-pub extern "C" fn yuvatondro_chart(table: &[u8], rows: &mut [u8], order: &mut [u16]) -> u64
+pub extern "C" fn yuvatondro_chart(table: &[u8], rows: &mut [Row], order: &mut [u16]) -> u64
     ensures { λ r. ⌜ chartRead r ≡ chartCall (now (table .entry)) (now (rows .entry)) (now (order .entry)) .numbers ⌝ }
     ensures { λ r. ⌜ r ≡ chartWord (chartCall (now (table .entry)) (now (rows .entry)) (now (order .entry)) .numbers) ⌝ }
     ensures { λ _. ⌜ now (rows .exit) ≡ chartCall (now (table .entry)) (now (rows .entry)) (now (order .entry)) .rows ⌝ }

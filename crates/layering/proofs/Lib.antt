@@ -3,3 +3,4 @@ pub mod RankLaws
 pub mod CallLaws
 pub mod StepLaws
 pub mod StarredLaws
+pub mod SizeLaws

@@ -2,14 +2,13 @@
 use mathlib.Core.Path.{_≡_, refl, sym, ap, subst, _∙_}
 use mathlib.Core.Bool.{Bool, true, false}
 use mathlib.Core.List.{List, []}
-use mathlib.Core.Option.{Option, none, some}
+use mathlib.Core.Option.{none, some}
 use Prim.Native.Nat.{ℕ, _-_, _≤_, _<_}
 use native.Mathlib.Omega.{arith}
 use lib.ListN.{length, getD, take, replicate, length-replicate}
 use lib.Seq.{ext-getD, getD-take, length-take-le}
 use Rattle.graph.specs.declared.Edge.{Edge}
 use Rattle.graph.specs.declared.TableEdge.{TableEdge}
-use Rattle.graph.specs.Rows.{noEdge}
 use Rattle.graph.specs.Search.{rowsOf}
 use Rattle.graph.specs.Directed.{ownEdge, noTableEdge, plainEdges, directed, directedBy}
 use Rattle.graph.proofs.DirectedLaws.{directed-length, directed-same, directed-none, directed-each, directed-take, padded-get}
@@ -24,10 +23,10 @@ use Rattle.acyclic.specs.Oriented.{mustOf, anySoft, orientedEdges, turnedEdges}
 use Rattle.acyclic.proofs.OrientedLaws.{AllApart, oriented-none, firm-plain, firm-turned, firm-must, turned-length, directed-oriented}
 use Rattle.orientation.specs.Orientable.{Orientable}
 use Rattle.rows.specs.declared.types.RowsFound.{RowsFound}
-use Rattle.rows.specs.Answers.{unlessLoop, rowsFound}
+use Rattle.rows.specs.Answers.{rowsFound}
 use Rattle.rows.specs.Placed.{FairEdges, noRows, Placed, EdgesPlaced}
-use Rattle.rows.proofs.PlacedLaws.{placed-refused}
-use Rattle.layering.specs.Calls.{tableRowsFound, flagsBy, flagArray, EdgesRanked}
+use Rattle.rows.proofs.PlacedLaws.{placed-refused, loop-free}
+use Rattle.layering.specs.Calls.{tableRowsFound, flagArray, EdgesRanked}
 
 -- ---- flags
 
@@ -55,11 +54,7 @@ flags-none flags few unset =
 -- they are those of the edges as kept or turned
 pub ranked-rows : (n : ℕ) (edges : List TableEdge) {rows : List ℕ} → tableRowsFound n edges ≡ done rows → rows ≡ rowsOf n (orientedEdges n edges)
 unfolding tableRowsFound
-ranked-rows n edges {rows} e = go (lowestOnLoop n (mustOf edges)) e
-  where
-    go : (l : Option ℕ) → unlessLoop l (rowsOf n (orientedEdges n edges)) ≡ done rows → rows ≡ rowsOf n (orientedEdges n edges)
-    go none e = cc
-    go (some k) e = let z : _≡_ {A = ℕ} 0 1 = cc in absurd (omega arith)
+ranked-rows n edges e = loop-free (lowestOnLoop n (mustOf edges)) e
 
 -- ---- edges within the limits
 

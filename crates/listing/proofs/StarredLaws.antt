@@ -4,7 +4,7 @@ use mathlib.Core.List.{map}
 use Rattle.graph.specs.Rows.{total}
 use Rattle.graph.specs.Search.{run, keepsOne, keeps, sieve, extend, placements, lightest, firstLightest, widest, rowsOf}
 use Rattle.table.specs.Number.{byteAt, numberAt, numberIn, many}
-use Rattle.table.specs.Table.{adjustAt, waitAt, kindAt, nameByteAt, nameAt, namedAt, stepAt, endAt, edgeBetween, edgeAt, firmnessAt, tableEdgeAt, stepsAt, edgesAt, listsAt, tableAt, readBy}
+use Rattle.table.specs.Table.{adjustAt, waitAt, kindAt, nameByteAt, nameAt, namedAt, stepAt, endAt, edgeBetween, edgeAt, firmnessAt, tableEdgeAt, stepsWithin, edgesWithin, listsWithin, tableWithin, readWithin}
 use Rattle.table.specs.Starred.{Case}
 use Rattle.acyclic.specs.Loops.{mark, sweep, sweeps, reached, onLoop, firstFrom, lowestOnLoop}
 use Rattle.acyclic.specs.Oriented.{mustOf, leads, turns, standAfter, orientedFrom, oriented}
@@ -24,5 +24,5 @@ use Rattle.listing.specs.Starred.{starredListings}
 
 -- each case prints what it says
 pub starred-listings : map (λ (c : Case). listing (c .input)) starredListings ≡ map (λ (c : Case). c .expected) starredListings
-unfolding total run keepsOne keeps sieve extend placements lightest firstLightest widest rowsOf byteAt numberAt numberIn many adjustAt waitAt kindAt nameByteAt nameAt namedAt stepAt endAt edgeBetween edgeAt firmnessAt tableEdgeAt stepsAt edgesAt listsAt tableAt readBy mark sweep sweeps reached onLoop firstFrom lowestOnLoop mustOf leads turns standAfter orientedFrom oriented tableRowsFound dummies pointRows chain segmentsFrom segments rowCount sum meanOf insert sortOnto moving fill reorder pointsIn startOrder position place ends settleRow downFrom upFrom results crossingsWith crossingPairs crossings drawn fewest bestOrder drawingOf chartOfTable digits blanked rowLines chartText listing
+unfolding total run keepsOne keeps sieve extend placements lightest firstLightest widest rowsOf byteAt numberAt numberIn many adjustAt waitAt kindAt nameByteAt nameAt namedAt stepAt endAt edgeBetween edgeAt firmnessAt tableEdgeAt stepsWithin edgesWithin listsWithin tableWithin readWithin mark sweep sweeps reached onLoop firstFrom lowestOnLoop mustOf leads turns standAfter orientedFrom oriented tableRowsFound dummies pointRows chain segmentsFrom segments rowCount sum meanOf insert sortOnto moving fill reorder pointsIn startOrder position place ends settleRow downFrom upFrom results crossingsWith crossingPairs crossings drawn fewest bestOrder drawingOf chartOfTable digits blanked rowLines chartText listing
 starred-listings = refl

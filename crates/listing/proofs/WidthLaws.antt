@@ -231,3 +231,7 @@ listing-short bytes = go (chartOfTable bytes) refl
     go : (o : Outcome Placing) → chartOfTable bytes ≡ o → length (outcomeText bytes o) ≤ maxListing
     go (done p) e = chart-short bytes p (drawable bytes e)
     go (refused r) e = omega (arith, refusal-short r (omega (arith, chart-of-step bytes e)))
+
+-- how long that is
+pub longest-listing : maxListing ≡ 25109
+longest-listing = refl

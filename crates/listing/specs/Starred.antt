@@ -16,7 +16,9 @@ starredListings =
     case (hex "81 00 00 00") (text "refused 2\n") ∷
     case (hex "80 80 80") (text "refused 2\n") ∷
     case (hex "01 40") (text "refused 1\n") ∷
-    case (hex "01 41") (text "refused 4\n") ∷
+    case (hex "01 41") (text "refused 1\n") ∷
+    case (hex "01 60") (text "refused 1\n") ∷
+    case (hex "01 61") (text "refused 4\n") ∷
     case (hex "01 00 00 00") (text "refused 10\n") ∷
     case (hex "01 01 00 01 41 01 00 00") (text "refused 9\n") ∷
     case (hex "01 02 00 01 41 00 01 42 02 00 01 01 01 01 00 01 01") (text "refused 11 0\n") ∷

@@ -25,7 +25,7 @@ use Rattle.rows.proofs.PlacedLaws.{best-low}
 use Rattle.ordering.specs.declared.Figures.{Figures}
 use Rattle.points.specs.Points.{pointRows, segments, rowCount}
 use Rattle.fewest.specs.Fewest.{bestOrder, drawingOf}
-use Rattle.ordering.specs.Calls.{Placing, Charted, ChartEnd, pointCount, unlessMany, chartOfTable, charted, chartOut, figuresNumbers, filled, chartEnd, chartCall, DrawnBest, ChartBest}
+use Rattle.ordering.specs.Calls.{ChartEnd, pointCount, unlessMany, chartOfTable, charted, chartOut, figuresNumbers, filled, chartEnd, chartCall, DrawnBest, ChartBest}
 use Rattle.ordering.specs.Charting.{Small}
 use Rattle.points.proofs.PointLaws.{points-length, segments-length}
 use Rattle.crossings.proofs.CrossingsLaws.{crossings-most}
@@ -64,6 +64,10 @@ total-low (e ∷ edges) y w t h =
       mul-comm (e .weight) t,
       mul-comm w t,
     )
+
+-- the bounds in numbers: the largest total and the most crossings that a word for C has to hold
+pub figures-most : (f : Figures) → Small f → (f .total ≤ 27907200) × (f .crossings ≤ 860672)
+figures-most f small = (small .low-total, omega (arith, small .few-crossings))
 
 -- figures are told one by one
 figures-same : (f g : Figures) → 0 ∷ figuresNumbers f ≡ 0 ∷ figuresNumbers g → f ≡ g

@@ -4,3 +4,4 @@ pub mod HandLaws
 pub mod CallLaws
 pub mod FigureLaws
 pub mod StepLaws
+pub mod SizeLaws

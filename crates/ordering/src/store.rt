@@ -2,7 +2,7 @@
 use crate::ChartAnswer;
 use crate::Figures;
 use crate::types::ChartFound;
-use buffers::store_u8;
+use buffers::store_u16;
 use outcome::Refusal;
 use outcome::Verdict;
 use rows::types::Row;
@@ -31,7 +31,7 @@ pub fn hand_out_chart(found: ChartFound, rows: &mut [Row], order: &mut [u16]) ->
             }
             let found_rows = found.rows;
             let found_order = found.order;
-            store_u8(&found_rows, n, rows);
+            store_u16(&found_rows, n, rows);
             copy_points(&found_order, points, order);
             ChartAnswer::Drawn(Figures {
                 points: points,

@@ -3,6 +3,7 @@ use edgelist::find_rows_of_records;
 use graph::Edge;
 use rows::types::Row;
 use rows::types::RowsAnswer;
+use table::limits::MAX_EDGES;
 ghost use mathlib.Core.Path.{_≡_};
 ghost use Prim.Native.Nat.{_≤_};
 ghost use lib.ListN.{take};
@@ -11,7 +12,7 @@ ghost use Rattle.edgelist.specs.Calls.{recordCall, RecordsBest};
 ghost use Rattle.records.specs.Input.{maxLent};
 
 // More than the row finder takes, so that it is seen to refuse a list that is too long.
-pub const MAX_LENT: usize = 200;
+pub const MAX_LENT: usize = MAX_EDGES + 8;
 
 // The row finder's answer for n steps and the first m edges.
 pub fn find_lent(n: usize, edges: [Edge; MAX_LENT], m: usize, rows: &mut [Row]) -> RowsAnswer

@@ -81,7 +81,7 @@ fn print_answer(bytes: &[u8], rows: &mut [Row]) {
 
 fn main() {
     let mut bytes = [0u8; MAX_READ];
-    let mut rows = [0u8; MAX_ENTRIES];
+    let mut rows = [0u16; MAX_ENTRIES];
     let len = io::read_full(STDIN_FILENO, &mut bytes);
     print_answer(&bytes[..len], &mut rows)
 }

@@ -4,3 +4,4 @@ pub mod StoreLaws
 pub mod TotalLaws
 pub mod StepLaws
 pub mod HeightLaws
+pub mod RowLaws

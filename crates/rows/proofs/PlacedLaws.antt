@@ -1,6 +1,7 @@
--- An outcome in an array of rows: what a refusal leaves, and how high best rows can be.
+-- An outcome in an array of rows: what a refusal leaves, which rows are found, and how high best rows can be.
 use mathlib.Core.Path.{_≡_, sym, ap, subst, _∙_}
 use mathlib.Core.List.{List, []}
+use mathlib.Core.Option.{Option, none, some}
 use Prim.Native.Nat.{ℕ, _*_, _-_, _≤_, _<_}
 use native.Mathlib.Nat.{le-trans, mul-le-mul-left, mul-le-mul-right}
 use native.Mathlib.Omega.{arith}
@@ -8,15 +9,17 @@ use lib.ListN.{length, take}
 use lib.Seq.{getD-take}
 use Rattle.graph.specs.declared.Edge.{Edge}
 use Rattle.graph.specs.Rows.{at, Best, Within}
-use Rattle.graph.specs.Search.{widest}
+use Rattle.graph.specs.Search.{widest, rowsOf}
 use Rattle.graph.proofs.BoundLaws.{widest-le, best-bounded}
 use Rattle.outcome.specs.declared.Refusal.{Refusal}
 use Rattle.outcome.specs.declared.Verdict.{Verdict}
 use Rattle.outcome.specs.declared.Verdict.the-variants.{Accepted, Refused}
 use Rattle.table.specs.Limits.{maxSteps, maxGap}
-use Rattle.outcome.specs.Refusal.{Outcome, refused}
+use Rattle.outcome.specs.Refusal.{Outcome, done, refused}
 use Rattle.buffers.proofs.PaddedLaws.{padded-long}
 use Rattle.rows.specs.declared.types.RowsFound.{RowsFound}
+use Rattle.acyclic.specs.Loops.{lowestOnLoop}
+use Rattle.rows.specs.Answers.{unlessLoop, rowsFound}
 use Rattle.rows.specs.Placed.{outcomeBy, topRow, FairEdges, noRows, Placed}
 
 -- ---- refused
@@ -42,6 +45,17 @@ placed-refused n edges what f {r} e w =
   where
     verdict-is : f .verdict ≡ Refused r
     verdict-is = ap (λ (x : RowsFound). x .verdict) e
+
+-- ---- found
+
+-- rows that no loop stands against are those that were to be found
+pub loop-free : (l : Option ℕ) {found rows : List ℕ} → unlessLoop l found ≡ done rows → rows ≡ found
+loop-free none e = cc
+loop-free (some s) e = let z : _≡_ {A = ℕ} 0 1 = cc in absurd (omega arith)
+
+pub found-rows : (n : ℕ) (edges : List Edge) {rows : List ℕ} → rowsFound n edges ≡ done rows → rows ≡ rowsOf n edges
+unfolding rowsFound
+found-rows n edges e = loop-free (lowestOnLoop n edges) e
 
 -- ---- the bound
 

@@ -8,7 +8,7 @@ use Rattle.graph.specs.Rows.{at, noEdge, Best}
 use Rattle.outcome.specs.declared.Refusal.{Refusal}
 use Rattle.outcome.specs.declared.Verdict.{Verdict}
 use Rattle.outcome.specs.declared.Verdict.the-variants.{Accepted, Refused}
-use Rattle.table.specs.Limits.{maxSteps, maxEdges, maxGap, maxWeight}
+use Rattle.table.specs.Limits.{maxSteps, maxEdges, oldSize, maxGap, maxWeight}
 use Rattle.outcome.specs.Refusal.{Outcome, done, refused}
 use Rattle.buffers.specs.Padded.{padded}
 use Rattle.table.specs.Fair.{FairEdge}
@@ -25,6 +25,10 @@ outcomeBy (Refused r) a = refused r
 -- no row of an answer is higher, at the limits of steps and gaps
 abbrev pub topRow : ℕ
 topRow = (maxSteps - 1) * maxGap
+
+-- nor was one at the limits that there were before tables grew: each fitted a byte
+abbrev pub oldTopRow : ℕ
+oldTopRow = (oldSize .steps - 1) * maxGap
 
 -- edges between n steps, all within the limits
 pub record FairEdges (n : ℕ) (edges : List Edge) : Type 0 where

@@ -2,7 +2,7 @@
 use crate::types::Row;
 use crate::types::RowsAnswer;
 use crate::types::RowsFound;
-use buffers::store_u8;
+use buffers::store_u16;
 use outcome::Refusal;
 use outcome::Verdict;
 ghost use Rattle.rows.specs.Placed.{heldRows, RowsStorable, RowsHandedOut};
@@ -20,7 +20,7 @@ pub fn hand_out(found: RowsFound, n: usize, out: &mut [Row]) -> RowsAnswer
                 return RowsAnswer::Refused(Refusal::ShortBuffer);
             }
             let rows = found.rows;
-            store_u8(&rows, n, out);
+            store_u16(&rows, n, out);
             RowsAnswer::Done
         }
     }

@@ -4,7 +4,7 @@ use outcome::Verdict;
 use table::limits::MAX_STEPS;
 
 // A row in a buffer that is lent.
-pub type Row = u8;
+pub type Row = u16;
 
 // Rows are in the buffer, or why they are not.
 pub enum RowsAnswer {

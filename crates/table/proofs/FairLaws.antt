@@ -20,7 +20,7 @@ use Rattle.table.specs.declared.types.Step.{Step}
 use Rattle.table.specs.Limits.{minEdition, maxEdition, maxSteps, maxEdges, maxKind, maxTolerance, minMinutes, maxMinutes, minName, maxName, minNameByte, maxNameByte, minGap, maxGap, maxWeight, softness, width, stepBytes, edgeBytes, maxTable}
 use Rattle.outcome.specs.Refusal.{done}
 use Rattle.table.specs.Number.{Read, got, fault, andThen, judge, byteAt, numberAt, numberIn, many, counted}
-use Rattle.table.specs.Table.{adjustAt, waitAt, kindAt, nameByteAt, nameAt, namedAt, stepAt, endAt, edgeBetween, edgeAt, firmnessAt, tableEdgeAt, stepsAt, edgesAt, listsAt, tableAt, outcome, readBy, read, Contents}
+use Rattle.table.specs.Table.{adjustAt, waitAt, kindAt, nameByteAt, nameAt, namedAt, stepAt, endAt, edgeBetween, edgeAt, firmnessAt, tableEdgeAt, stepsAt, edgesAt, tableAt, outcome, readBy, read, Contents, stepsWithin, edgesWithin, listsWithin, tableWithin, readWithin}
 use Rattle.table.specs.Calls.{noStep}
 use Rattle.table.specs.Fair.{KindInRange, FairStep, FairEdge, Fair}
 use Rattle.table.proofs.NumberLaws.{in-limits}
@@ -203,7 +203,7 @@ record Kept (rule : Rule) (s : List ℕ) (c : Contents) : Type 0 where
   short : length s ≤ maxTable rule
 
 table-fair : (rule : Rule) (s : List ℕ) {c : Contents} {p : ℕ} → tableAt rule s 0 ≡ got c p → Kept rule s c
-unfolding tableAt listsAt stepsAt edgesAt
+unfolding tableWithin listsWithin stepsWithin edgesWithin
 table-fair rule s {c} {p} e =
     let ed = came (numberIn rule minEdition maxEdition BadEdition s 0) _ e in
     let st = came (stepsAt rule s (ed .place)) _ (ed .next) in
@@ -240,7 +240,7 @@ table-fair rule s {c} {p} e =
     })
 
 read-kept : (rule : Rule) (s : List ℕ) {c : Contents} → readBy rule s ≡ done c → Kept rule s c
-unfolding readBy
+unfolding readWithin
 read-kept rule s {c} e = go (tableAt rule s 0) refl e
   where
     go : (x : Read Contents) → tableAt rule s 0 ≡ x → outcome x ≡ done c → Kept rule s c
@@ -262,8 +262,8 @@ pub read-short : (s : List ℕ) {c : Contents} → read s ≡ done c → length 
 read-short s e = read-short-by Shortest s e
 
 -- how long these are, and those that the old rule takes
-pub longest-today : maxTable Shortest ≡ 2436
+pub longest-today : maxTable Shortest ≡ 3652
 longest-today = refl
 
-pub longest-old : maxTable Old ≡ 4489
+pub longest-old : maxTable Old ≡ 6729
 longest-old = refl

@@ -12,4 +12,6 @@ pub mod ArrayLaws
 pub mod AnswerLaws
 pub mod RangeLaws
 pub mod PrefixLaws
+pub mod FollowLaws
 pub mod OldLaws
+pub mod SizeLaws

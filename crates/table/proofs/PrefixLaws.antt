@@ -19,7 +19,7 @@ use Rattle.outcome.specs.declared.Refusal.{Refusal}
 use Rattle.outcome.specs.declared.Refusal.the-variants.{BadEdition, ManySteps, BadKind, OutOfRange, BadNameByte, ManyEdges, BadFirmness}
 use Rattle.table.specs.Limits.{minEdition, maxEdition, maxSteps, maxEdges, maxKind, maxTolerance, minMinutes, maxMinutes, minName, maxName, minNameByte, maxNameByte, minGap, maxGap, maxWeight, softness, numberBytes, stepBytes, edgeBytes, maxTable}
 use Rattle.table.specs.Number.{Read, got, fault, andThen, byteAt, numberAt, numberIn, many, counted}
-use Rattle.table.specs.Table.{adjustAt, waitAt, kindAt, nameByteAt, nameAt, namedAt, stepAt, endAt, edgeBetween, edgeAt, firmnessAt, tableEdgeAt, stepsAt, edgesAt, listsAt, tableAt, outcome, readBy}
+use Rattle.table.specs.Table.{adjustAt, waitAt, kindAt, nameByteAt, nameAt, namedAt, stepAt, endAt, edgeBetween, edgeAt, firmnessAt, tableEdgeAt, stepsAt, edgesAt, listsAt, tableAt, outcome, readBy, stepsWithin, edgesWithin, listsWithin, tableWithin, readWithin}
 use Rattle.table.proofs.NumberLaws.{in-limits}
 use Rattle.table.proofs.InverseLaws.{came, passed, got-place, many-width}
 use Rattle.table.proofs.PlaceLaws.{byte-place, width-most, limits-place}
@@ -137,28 +137,28 @@ module _ (rule : Rule) (s t : List ℕ) (same : (i : ℕ) → i < maxTable Old �
       omega (arith, table-edge-fair rule s edition n at e .1, width-most rule n, width-most rule maxGap, width-most rule maxWeight, width-most rule softness)
 
   steps-same : (at : ℕ) → at + numberBytes + maxSteps * stepBytes Old ≤ maxTable Old → stepsAt rule s at ≡ stepsAt rule t at
-  unfolding stepsAt
+  unfolding stepsWithin
   steps-same at h =
       same-then (numberIn rule 0 maxSteps ManySteps s at) _ _ (limits-same 0 maxSteps ManySteps at (omega arith)) λ n p e.
       many-same (stepAt rule s) (stepAt rule t) (stepBytes Old) step-same step-end n p
       (omega (arith, limits-end 0 maxSteps ManySteps at e, in-limits rule 0 maxSteps ManySteps s at e))
 
   edges-same : (edition n at : ℕ) → at + numberBytes + maxEdges * edgeBytes Old maxSteps ≤ maxTable Old → edgesAt rule s edition n at ≡ edgesAt rule t edition n at
-  unfolding edgesAt
+  unfolding edgesWithin
   edges-same edition n at h =
       same-then (numberIn rule 0 maxEdges ManyEdges s at) _ _ (limits-same 0 maxEdges ManyEdges at (omega arith)) λ m p e.
       many-same (tableEdgeAt rule s edition n) (tableEdgeAt rule t edition n) (edgeBytes Old maxSteps) (table-edge-same edition n) (table-edge-end edition n) m p
       (omega (arith, limits-end 0 maxEdges ManyEdges at e, in-limits rule 0 maxEdges ManyEdges s at e))
 
   steps-place : (at : ℕ) {l : List Step} {p : ℕ} → stepsAt rule s at ≡ got l p → p ≤ at + numberBytes + maxSteps * stepBytes Old
-  unfolding stepsAt
+  unfolding stepsWithin
   steps-place at e =
       let n = came (numberIn rule 0 maxSteps ManySteps s at) _ e in
       let wide = many-width (stepAt rule s) (stepBytes Old) step-end (n .value) (n .place) (n .next) in
       omega (arith, limits-end 0 maxSteps ManySteps at (n .first), in-limits rule 0 maxSteps ManySteps s at (n .first))
 
   edges-place : (edition n at : ℕ) {l : List TableEdge} {p : ℕ} → edgesAt rule s edition n at ≡ got l p → p ≤ at + numberBytes + maxEdges * edgeBytes Old maxSteps
-  unfolding edgesAt
+  unfolding edgesWithin
   edges-place edition n at e =
       let m = came (numberIn rule 0 maxEdges ManyEdges s at) _ e in
       let wide = many-width (tableEdgeAt rule s edition n) (edgeBytes Old maxSteps) (table-edge-end edition n) (m .value) (m .place) (m .next) in
@@ -168,7 +168,7 @@ module _ (rule : Rule) (s t : List ℕ) (same : (i : ℕ) → i < maxTable Old �
 
   module _ (more-s : maxTable Old < length s) (more-t : maxTable Old < length t) where
     lists-same : (edition at : ℕ) → at ≤ numberBytes → listsAt rule s edition at ≡ listsAt rule t edition at
-    unfolding listsAt
+    unfolding listsWithin
     lists-same edition at h =
         same-then (stepsAt rule s at) _ _ (steps-same at (omega arith)) λ steps p e.
         let a = steps-place at e in
@@ -177,7 +177,7 @@ module _ (rule : Rule) (s t : List ℕ) (same : (i : ℕ) → i < maxTable Old �
         rw (ne-eqb q (length s) (λ z. omega arith), ne-eqb q (length t) (λ z. omega arith))
 
     table-same : tableAt rule s 0 ≡ tableAt rule t 0
-    unfolding tableAt
+    unfolding tableWithin
     table-same =
         same-then (numberIn rule minEdition maxEdition BadEdition s 0) _ _ (limits-same minEdition maxEdition BadEdition 0 (omega arith)) λ v p e.
         lists-same v p (omega (arith, limits-end minEdition maxEdition BadEdition 0 e))
@@ -186,7 +186,7 @@ module _ (rule : Rule) (s t : List ℕ) (same : (i : ℕ) → i < maxTable Old �
 -- refusals included. An input of at most k bytes is taken whole. Of a longer one both readings see the same bytes where a table
 -- could have any, so that they meet the same fault there, or both find bytes to spare.
 pub read-prefix : (rule : Rule) (k : ℕ) (s : List ℕ) → maxTable Old < k → readBy rule (take k s) ≡ readBy rule s
-unfolding readBy byteAt
+unfolding readWithin byteAt
 read-prefix rule k s h = go (leb (length s) k) refl
   where
     go : (b : Bool) → leb (length s) k ≡ b → readBy rule (take k s) ≡ readBy rule s

@@ -15,7 +15,7 @@ use Rattle.table.specs.Limits.{minEdition, minNameByte, maxNameByte}
 use Rattle.outcome.specs.Refusal.{refused, numberOf, stepOf}
 use Rattle.outcome.proofs.ToldLaws.{alone}
 use Rattle.table.specs.Number.{Read, got, fault, andThen, judge, byteAt, takes, numberAt, numberIn, many, counted}
-use Rattle.table.specs.Table.{Contents, adjustAt, waitAt, kindAt, nameByteAt, nameAt, namedAt, stepAt, endAt, edgeBetween, edgeAt, firmnessAt, tableEdgeAt, stepsAt, edgesAt, listsAt, tableAt, outcome, readBy, read}
+use Rattle.table.specs.Table.{Contents, adjustAt, waitAt, kindAt, nameByteAt, nameAt, namedAt, stepAt, endAt, edgeBetween, edgeAt, firmnessAt, tableEdgeAt, stepsAt, edgesAt, tableAt, outcome, readBy, read, stepsWithin, edgesWithin, listsWithin, tableWithin, readWithin}
 
 -- a refusal of the reader's own
 abbrev pub OfReader : Refusal → Type 0
@@ -95,7 +95,7 @@ own-table-edge rule s edition n at =
     own-then (edgeAt rule s n at) _ (own-edge rule s n at) (λ e p. own-then (firmnessAt rule s edition p) _ (own-firmness rule s edition p) (λ f q. tt))
 
 own-table : (rule : Rule) (s : List ℕ) → Own (tableAt rule s 0)
-unfolding tableAt listsAt stepsAt edgesAt
+unfolding tableWithin listsWithin stepsWithin edgesWithin
 own-table rule s =
     own-then (numberIn rule _ _ BadEdition s 0) _ (own-limits rule _ _ BadEdition s 0 (inl (omega arith))) (λ edition p.
     own-then (stepsAt rule s p) _ (own-then (numberIn rule _ _ ManySteps s p) _ (own-limits rule _ _ ManySteps s p (inl (omega arith))) (λ n q. own-many (stepAt rule s) (own-step rule s) n q)) (λ steps q.
@@ -104,7 +104,7 @@ own-table rule s =
 
 -- the reader refuses by 1 to 10 and 15 only
 pub read-range-by : (rule : Rule) (s : List ℕ) {f : Refusal} → readBy rule s ≡ refused f → OfReader f
-unfolding readBy
+unfolding readWithin
 read-range-by rule s {f} e = go (tableAt rule s 0) (own-table rule s) e
   where
     go : (x : Read Contents) → Own x → outcome x ≡ refused f → OfReader f

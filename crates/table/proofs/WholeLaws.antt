@@ -15,7 +15,7 @@ use Rattle.table.specs.declared.types.Step.{Step}
 use Rattle.outcome.specs.declared.Verdict.{Verdict}
 use Rattle.outcome.specs.declared.Verdict.the-variants.{Accepted, Refused}
 use Rattle.table.specs.Number.{Read, got, fault}
-use Rattle.table.specs.Table.{stepsAt, edgesAt, listsAt}
+use Rattle.table.specs.Table.{stepsAt, edgesAt, listsAt, listsWithin}
 use Rattle.table.specs.Limits.{maxSteps, maxEdges}
 use Rattle.table.specs.Calls.{noStep, tableOf}
 use Rattle.buffers.specs.Padded.{padded}
@@ -42,21 +42,21 @@ module _ {A : Type 0} {k : ℕ} {blank : A} {what : Read (List A)} {verdict : Ve
 
 module _ (rule : Rule) (s : List ℕ) (edition at : ℕ) where
   pub lists-stop : {f : Refusal} → stepsAt rule s at ≡ fault f → listsAt rule s edition at ≡ fault f
-  unfolding listsAt
+  unfolding listsWithin
   lists-stop e = rw e
 
   module _ {steps : List Step} {p : ℕ} (n : ℕ) (e : stepsAt rule s at ≡ got steps p) (l : length steps ≡ n) where
     pub lists-cut : {f : Refusal} → edgesAt rule s edition n p ≡ fault f → listsAt rule s edition at ≡ fault f
-    unfolding listsAt
+    unfolding listsWithin
     lists-cut g = rw (e, l, g)
 
     module _ {edges : List TableEdge} {q : ℕ} (g : edgesAt rule s edition n p ≡ got edges q) where
       pub lists-spare : (q ≡ length s → ⊥) → listsAt rule s edition at ≡ fault Spare
-      unfolding listsAt
+      unfolding listsWithin
       lists-spare h = rw (e, l, g, ne-eqb q (length s) h)
 
       pub lists-whole : q ≡ length s → listsAt rule s edition at ≡ got (record { steps = steps; edges = edges }) q
-      unfolding listsAt
+      unfolding listsWithin
       lists-whole h = rw (e, l, g, eq-eqb q (length s) h)
 
 -- two lists that were read make the table of what they hold

@@ -13,10 +13,22 @@ abbrev pub maxEdition : ℕ
 maxEdition = 2
 
 abbrev pub maxSteps : ℕ
-maxSteps = 64
+maxSteps = 96
 
 abbrev pub maxEdges : ℕ
-maxEdges = 192
+maxEdges = 288
+
+-- how many steps and how many edges a table may have
+pub record Size : Type 0 where
+  pub steps : ℕ
+  pub edges : ℕ
+
+abbrev pub maxSize : Size
+maxSize = record { steps = maxSteps; edges = maxEdges }
+
+-- and how many they might be before document 02 (its fourth request) let tables grow
+abbrev pub oldSize : Size
+oldSize = record { steps = 64; edges = 192 }
 
 -- the kinds are numbered 0 to 2
 abbrev pub maxKind : ℕ

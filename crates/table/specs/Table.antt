@@ -13,7 +13,7 @@ use Rattle.table.specs.declared.types.Kind.{Kind}
 use Rattle.table.specs.declared.types.Kind.the-variants.{Check, Adjust, Wait}
 use Rattle.table.specs.declared.types.Step.{Step}
 use Rattle.outcome.specs.declared.Refusal.the-variants.{BadEdition, ManySteps, BadKind, OutOfRange, BadNameByte, ManyEdges, BadEnd, Spare, BadFirmness}
-use Rattle.table.specs.Limits.{minEdition, maxEdition, maxSteps, maxEdges, maxKind, maxTolerance, minMinutes, maxMinutes, minName, maxName, minNameByte, maxNameByte, minGap, maxGap, maxWeight, softness}
+use Rattle.table.specs.Limits.{minEdition, maxEdition, Size, maxSize, maxKind, maxTolerance, minMinutes, maxMinutes, minName, maxName, minNameByte, maxNameByte, minGap, maxGap, maxWeight, softness}
 use Rattle.outcome.specs.Refusal.{Outcome, done, refused}
 use Rattle.table.specs.Number.{Read, got, fault, andThen, judge, byteAt, numberAt, numberIn, many, counted}
 
@@ -75,13 +75,14 @@ tableEdgeAt rule s edition n at =
     andThen (edgeAt rule s n at) λ e p.
     andThen (firmnessAt rule s edition p) λ firmness q. got (tableEdge e (eqb firmness softness)) q
 
--- the count of steps, then the steps
-unfoldable pub stepsAt : Rule → List ℕ → ℕ → Read (List Step)
-stepsAt rule s at = andThen (numberIn rule 0 maxSteps ManySteps s at) λ n p. many (stepAt rule s) n p
+-- The count of steps, then the steps. How many steps and edges there may be is a size; all layers read by `maxSize`, and what they
+-- read by stands below.
+unfoldable pub stepsWithin : Size → Rule → List ℕ → ℕ → Read (List Step)
+stepsWithin size rule s at = andThen (numberIn rule 0 (size .steps) ManySteps s at) λ n p. many (stepAt rule s) n p
 
 -- the count of edges, then the edges
-unfoldable pub edgesAt : Rule → List ℕ → ℕ → ℕ → ℕ → Read (List TableEdge)
-edgesAt rule s edition n at = andThen (numberIn rule 0 maxEdges ManyEdges s at) λ m p. many (tableEdgeAt rule s edition n) m p
+unfoldable pub edgesWithin : Size → Rule → List ℕ → ℕ → ℕ → ℕ → Read (List TableEdge)
+edgesWithin size rule s edition n at = andThen (numberIn rule 0 (size .edges) ManyEdges s at) λ m p. many (tableEdgeAt rule s edition n) m p
 
 -- what a table says
 pub record Contents : Type 0 where
@@ -89,22 +90,40 @@ pub record Contents : Type 0 where
   pub edges : List TableEdge
 
 -- steps and edges, and nothing behind them
-unfoldable pub listsAt : Rule → List ℕ → ℕ → ℕ → Read Contents
-listsAt rule s edition at =
-    andThen (stepsAt rule s at) λ steps p.
-    andThen (edgesAt rule s edition (length steps) p) λ edges e.
+unfoldable pub listsWithin : Size → Rule → List ℕ → ℕ → ℕ → Read Contents
+listsWithin size rule s edition at =
+    andThen (stepsWithin size rule s at) λ steps p.
+    andThen (edgesWithin size rule s edition (length steps) p) λ edges e.
     judge (eqb e (length s)) Spare (got (record { steps = steps; edges = edges }) e)
 
-unfoldable pub tableAt : Rule → List ℕ → ℕ → Read Contents
-tableAt rule s at = andThen (numberIn rule minEdition maxEdition BadEdition s at) λ edition p. listsAt rule s edition p
+unfoldable pub tableWithin : Size → Rule → List ℕ → ℕ → Read Contents
+tableWithin size rule s at = andThen (numberIn rule minEdition maxEdition BadEdition s at) λ edition p. listsWithin size rule s edition p
 
 abbrev pub outcome : {A : Type 0} → Read A → Outcome A
 outcome (got a p) = done a
 outcome (fault r) = refused r
 
+-- what the bytes say by a rule, within a size, or the first fault
+unfoldable pub readWithin : Size → Rule → List ℕ → Outcome Contents
+readWithin size rule s = outcome (tableWithin size rule s 0)
+
+-- ---- within the size that a table may have
+
+abbrev pub stepsAt : Rule → List ℕ → ℕ → Read (List Step)
+stepsAt rule s at = stepsWithin maxSize rule s at
+
+abbrev pub edgesAt : Rule → List ℕ → ℕ → ℕ → ℕ → Read (List TableEdge)
+edgesAt rule s edition n at = edgesWithin maxSize rule s edition n at
+
+abbrev pub listsAt : Rule → List ℕ → ℕ → ℕ → Read Contents
+listsAt rule s edition at = listsWithin maxSize rule s edition at
+
+abbrev pub tableAt : Rule → List ℕ → ℕ → Read Contents
+tableAt rule s at = tableWithin maxSize rule s at
+
 -- what the bytes say by a rule, or the first fault
-unfoldable pub readBy : Rule → List ℕ → Outcome Contents
-readBy rule s = outcome (tableAt rule s 0)
+abbrev pub readBy : Rule → List ℕ → Outcome Contents
+readBy rule s = readWithin maxSize rule s
 
 -- what the bytes say: every call reads so but the one that converts stored tables
 abbrev pub read : List ℕ → Outcome Contents

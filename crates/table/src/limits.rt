@@ -5,9 +5,9 @@ pub const MIN_EDITION: usize = 1;
 
 pub const MAX_EDITION: usize = 2;
 
-pub const MAX_STEPS: usize = 64;
+pub const MAX_STEPS: usize = 96;
 
-pub const MAX_EDGES: usize = 192;
+pub const MAX_EDGES: usize = 288;
 
 pub const MAX_KIND: usize = 2;
 

@@ -6,11 +6,12 @@ use native.Mathlib.Omega.{arith}
 use lib.ListN.{getD}
 use Rattle.outcome.specs.declared.Refusal.{Refusal}
 use Rattle.outcome.specs.declared.Refusal.the-variants.{Cut, Overlong, BadEdition, ManySteps, BadKind, OutOfRange, BadNameByte, ManyEdges, BadEnd, Spare, Loop, ManyPoints, ShortBuffer, NoStep, BadFirmness}
+use Rattle.table.specs.Limits.{maxSteps, maxName}
 use Rattle.outcome.specs.Refusal.{numbersOf, stepOf, refusalIn}
 use Rattle.ordering.specs.declared.Figures.{Figures}
 use Rattle.ordering.specs.Calls.{figuresNumbers, ChartBest}
 use Rattle.ordering.specs.Charting.{Small}
-use Rattle.words.specs.Words.{wordSteps, wordEdges, wordNameStart, wordNameLength, wordPoints, wordTotal, wordCrossings, wordWritten, wordRead, doneRead, writtenRead, countsRead, nameRead, chartRead, second, third, totalUnit, crossingsUnit, doneWord, countsWord, nameWord, chartWord}
+use Rattle.words.specs.Words.{wordSteps, wordEdges, wordNameStart, wordNameLength, wordPoints, wordTotal, wordCrossings, wordWritten, wordRead, doneRead, writtenRead, countsRead, nameRead, chartRead, second, doneWord, countsWord, nameWord, chartWord}
 
 -- ---- refusals
 
@@ -87,24 +88,24 @@ module _ (f : Refusal) (low : stepOf f < second) {w : ℕ} (is : w ≡ doneWord 
 
 -- ---- values
 
--- nothing is packed
-pub done-told : {numbers : List ℕ} → 0 ∷ [] ≡ numbers → (doneRead 0 ≡ numbers) × (0 ≡ doneWord numbers)
-unfolding doneRead
-done-told e = (e, ap doneWord e)
+-- Each word unpacks to the numbers packed into it: one law for each, over what the functions of the header do.
 
--- what is packed comes out again, part by part
-module _ (len : ℕ) {w : ℕ} (is : w ≡ doneWord (0 ∷ len ∷ [])) {numbers : List ℕ} (e : 0 ∷ len ∷ [] ≡ numbers) where
+pub done-unpacks : {w : ℕ} → w ≡ doneWord (0 ∷ []) → doneRead w ≡ 0 ∷ []
+unfolding doneRead
+done-unpacks is = ap doneRead is
+
+module _ (len : ℕ) {w : ℕ} (is : w ≡ doneWord (0 ∷ len ∷ [])) where
   written-zero : w % 0x100 ≡ 0
   written-zero = omega (arith, is)
 
   written-rest : w / 0x100 ≡ len
   written-rest = omega (arith, is)
 
-  pub written-told : (writtenRead w ≡ numbers) × (w ≡ doneWord numbers)
+  pub written-unpacks : writtenRead w ≡ 0 ∷ len ∷ []
   unfolding writtenRead
-  written-told = (rw (written-zero, written-rest) e, is ∙ ap doneWord e)
+  written-unpacks = rw (written-zero, written-rest)
 
-module _ (steps edges : ℕ) (h : steps < second) {w : ℕ} (is : w ≡ countsWord (0 ∷ steps ∷ edges ∷ [])) {numbers : List ℕ} (e : 0 ∷ steps ∷ edges ∷ [] ≡ numbers) where
+module _ (steps edges : ℕ) (h : steps ≤ maxSteps) {w : ℕ} (is : w ≡ countsWord (0 ∷ steps ∷ edges ∷ [])) where
   counts-low : w % 0x100 ≡ 0
   counts-low = omega (arith, is)
 
@@ -114,11 +115,11 @@ module _ (steps edges : ℕ) (h : steps < second) {w : ℕ} (is : w ≡ countsWo
   counts-rest : w / 0x10000 ≡ edges
   counts-rest = omega (arith, is)
 
-  pub counts-told : (countsRead w ≡ numbers) × (w ≡ countsWord numbers)
+  pub counts-unpacks : countsRead w ≡ 0 ∷ steps ∷ edges ∷ []
   unfolding countsRead
-  counts-told = (rw (counts-low, counts-first, counts-rest) e, is ∙ ap countsWord e)
+  counts-unpacks = rw (counts-low, counts-first, counts-rest)
 
-module _ (start len : ℕ) (h : len < second) {w : ℕ} (is : w ≡ nameWord (0 ∷ start ∷ len ∷ [])) {numbers : List ℕ} (e : 0 ∷ start ∷ len ∷ [] ≡ numbers) where
+module _ (start len : ℕ) (h : len ≤ maxName) {w : ℕ} (is : w ≡ nameWord (0 ∷ start ∷ len ∷ [])) where
   name-low : w % 0x100 ≡ 0
   name-low = omega (arith, is)
 
@@ -128,11 +129,11 @@ module _ (start len : ℕ) (h : len < second) {w : ℕ} (is : w ≡ nameWord (0 
   name-rest : w / 0x10000 ≡ start
   name-rest = omega (arith, is)
 
-  pub name-told : (nameRead w ≡ numbers) × (w ≡ nameWord numbers)
+  pub name-unpacks : nameRead w ≡ 0 ∷ start ∷ len ∷ []
   unfolding nameRead
-  name-told = (rw (name-low, name-first, name-rest) e, is ∙ ap nameWord e)
+  name-unpacks = rw (name-low, name-first, name-rest)
 
-module _ (f : Figures) (small : Small f) {w : ℕ} (is : w ≡ chartWord (0 ∷ figuresNumbers f)) {numbers : List ℕ} (e : 0 ∷ figuresNumbers f ≡ numbers) where
+module _ (f : Figures) (small : Small f) {w : ℕ} (is : w ≡ chartWord (0 ∷ figuresNumbers f)) where
   chart-low : w % 0x100 ≡ 0
   chart-low = omega arith
 
@@ -145,9 +146,33 @@ module _ (f : Figures) (small : Small f) {w : ℕ} (is : w ≡ chartWord (0 ∷ 
   chart-crossings : w / 0x100000000000 ≡ f .crossings
   chart-crossings = omega arith
 
-  pub chart-told : (chartRead w ≡ numbers) × (w ≡ chartWord numbers)
+  pub chart-unpacks : chartRead w ≡ 0 ∷ figuresNumbers f
   unfolding chartRead
-  chart-told = (rw (chart-low, chart-points, chart-total, chart-crossings) e, is ∙ ap chartWord e)
+  chart-unpacks = rw (chart-low, chart-points, chart-total, chart-crossings)
+
+-- so much is said of a word that tells values: the numbers read out of it, and which word it is
+told : (read : ℕ → List ℕ) (word : List ℕ → ℕ) {w : ℕ} {values numbers : List ℕ} → read w ≡ values → w ≡ word values → values ≡ numbers
+    → (read w ≡ numbers) × (w ≡ word numbers)
+told read word u is e = (u ∙ e, is ∙ ap word e)
+
+pub done-told : {numbers : List ℕ} → 0 ∷ [] ≡ numbers → (doneRead 0 ≡ numbers) × (0 ≡ doneWord numbers)
+done-told e = told doneRead doneWord (done-unpacks refl) refl e
+
+pub written-told : (len : ℕ) {w : ℕ} → w ≡ doneWord (0 ∷ len ∷ []) → {numbers : List ℕ} → 0 ∷ len ∷ [] ≡ numbers
+    → (writtenRead w ≡ numbers) × (w ≡ doneWord numbers)
+written-told len is e = told writtenRead doneWord (written-unpacks len is) is e
+
+pub counts-told : (steps edges : ℕ) → steps ≤ maxSteps → {w : ℕ} → w ≡ countsWord (0 ∷ steps ∷ edges ∷ []) → {numbers : List ℕ}
+    → 0 ∷ steps ∷ edges ∷ [] ≡ numbers → (countsRead w ≡ numbers) × (w ≡ countsWord numbers)
+counts-told steps edges h is e = told countsRead countsWord (counts-unpacks steps edges h is) is e
+
+pub name-told : (start len : ℕ) → len ≤ maxName → {w : ℕ} → w ≡ nameWord (0 ∷ start ∷ len ∷ []) → {numbers : List ℕ}
+    → 0 ∷ start ∷ len ∷ [] ≡ numbers → (nameRead w ≡ numbers) × (w ≡ nameWord numbers)
+name-told start len h is e = told nameRead nameWord (name-unpacks start len h is) is e
+
+pub chart-told : (f : Figures) → Small f → {w : ℕ} → w ≡ chartWord (0 ∷ figuresNumbers f) → {numbers : List ℕ} → 0 ∷ figuresNumbers f ≡ numbers
+    → (chartRead w ≡ numbers) × (w ≡ chartWord numbers)
+chart-told f small is e = told chartRead chartWord (chart-unpacks f small is) is e
 
 -- ---- demand 3, from the answer to the word
 

@@ -14,7 +14,7 @@ use Rattle.table.specs.declared.rule.Rule.the-variants.{Old, Shortest}
 use Rattle.table.specs.declared.types.Step.{Step}
 use Rattle.table.specs.Limits.{minEdition, maxEdition, maxSteps, maxEdges}
 use Rattle.table.specs.Number.{Read, got, fault, numberIn}
-use Rattle.table.specs.Table.{Contents, stepAt, tableEdgeAt, stepsAt, edgesAt, listsAt, tableAt, outcome, readBy, read}
+use Rattle.table.specs.Table.{Contents, stepAt, tableEdgeAt, stepsAt, edgesAt, tableAt, outcome, readBy, read, stepsWithin, edgesWithin, listsWithin, tableWithin, readWithin}
 use Rattle.table.proofs.NumberLaws.{in-limits}
 use Rattle.table.proofs.OldLaws.{read-old}
 use Rattle.table.proofs.InverseLaws.{came, passed, got-value, many-length}
@@ -40,7 +40,7 @@ map-same (a ∷ l) = ap (λ m. a ∷ m) (map-same l)
 module _ (s : List ℕ) where
   steps-back : (at : ℕ) (l : List SaidStep) → length l ≤ maxSteps → All SayableStep l → Stands s at (shortList shortStep l)
       → Back (map (saidStep s)) (stepsAt Shortest s at) l (at + length (shortList shortStep l))
-  unfolding stepsAt shortList
+  unfolding stepsWithin shortList
   steps-back at l few g h =
       let a = shortNumber (length l) in
       let b = each shortStep l in
@@ -51,7 +51,7 @@ module _ (s : List ℕ) where
 
   edges-back : (edition n at : ℕ) (l : List TableEdge) → n ≤ maxSteps → length l ≤ maxEdges → All (TellableEdge edition n) l
       → Stands s at (shortList (shortEdge edition) l) → edgesAt Shortest s edition n at ≡ got l (at + length (shortList (shortEdge edition) l))
-  unfolding edgesAt shortList
+  unfolding edgesWithin shortList
   edges-back edition n at l low few g h =
       let a = shortNumber (length l) in
       let b = each (shortEdge edition) l in
@@ -64,7 +64,7 @@ module _ (s : List ℕ) where
 -- Whatever keeps the limits is said by its shortest table. The edition, the steps and the edges stand in it one behind the other and
 -- nothing follows; each of them is read back from where it stands.
 pub shortest-back : (what : Said) → Sayable what → Says (shortest what) what
-unfolding readBy tableAt listsAt shortest
+unfolding readWithin tableWithin listsWithin shortest
 shortest-back what g =
     let s = shortest what in
     let edition = editionFor (what .edges) in
@@ -103,7 +103,7 @@ whole-wide a b c p q e len h k m end = omega (arith, length-append a b, length-a
 module _ (rule : Rule) (s : List ℕ) where
   steps-short : (at : ℕ) {l : List Step} {p : ℕ} → stepsAt rule s at ≡ got l p
       → (length l ≤ maxSteps) × All SayableStep (map (saidStep s) l) × (at + length (shortList shortStep (map (saidStep s) l)) ≤ p)
-  unfolding stepsAt shortList
+  unfolding stepsWithin shortList
   steps-short at {l} {p} e =
       let n = came (numberIn rule 0 maxSteps ManySteps s at) _ e in
       let few = in-limits rule 0 maxSteps ManySteps s at (n .first) .1 in
@@ -119,7 +119,7 @@ module _ (rule : Rule) (s : List ℕ) where
 
   edges-short : (edition n at : ℕ) {l : List TableEdge} {p : ℕ} → n ≤ maxSteps → edgesAt rule s edition n at ≡ got l p
       → (length l ≤ maxEdges) × All (TellableEdge edition n) l × (at + length (shortList (shortEdge (editionFor l)) l) ≤ p)
-  unfolding edgesAt shortList
+  unfolding edgesWithin shortList
   edges-short edition n at {l} {p} low e =
       let m = came (numberIn rule 0 maxEdges ManyEdges s at) _ e in
       let few = in-limits rule 0 maxEdges ManyEdges s at (m .first) .1 in
@@ -142,7 +142,7 @@ record Shortened (s : List ℕ) (c : Contents) : Type 0 where
   short : length (shortest (said s c)) ≤ length s
 
 table-short : (rule : Rule) (s : List ℕ) {c : Contents} {p : ℕ} → tableAt rule s 0 ≡ got c p → Shortened s c
-unfolding tableAt listsAt shortest
+unfolding tableWithin listsWithin shortest
 table-short rule s {c} {p} e =
     let ed = came (numberIn rule minEdition maxEdition BadEdition s 0) _ e in
     let st = came (stepsAt rule s (ed .place)) _ (ed .next) in
@@ -170,7 +170,7 @@ table-short rule s {c} {p} e =
     })
 
 read-shortened : (rule : Rule) (s : List ℕ) {c : Contents} → readBy rule s ≡ done c → Shortened s c
-unfolding readBy
+unfolding readWithin
 read-shortened rule s {c} e = go (tableAt rule s 0) refl e
   where
     go : (x : Read Contents) → tableAt rule s 0 ≡ x → outcome x ≡ done c → Shortened s c

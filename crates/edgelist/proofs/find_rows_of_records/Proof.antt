@@ -24,7 +24,7 @@ use denote.Plain.{uint-vals, uint-tells, uint-makes}
 use denote.Ref.{RefT, now}
 use denote.Slice.{sliceVal, ShrSlice, MutSlice, Room, slice-vals, shr-slice-tells, mut-slice-tells, shr-slice-copy, finally}
 use denote.Signature.{plain}
-use denote.Builtin.{usize, u8}
+use denote.Builtin.{usize}
 use denote.Steps.{nothing, owned, peeks, heard}
 use denote.Enum.Laws as EL
 use denote.Struct.Laws as LL
@@ -40,6 +40,7 @@ use Rattle.graph.specs.declared.Edge.{Edge}
 use Rattle.graph.proofs.Edge as T
 use Rattle.flatten.specs.declared.Flat.{Flat}
 use Rattle.rows.specs.declared.types.RowsAnswer.{RowsAnswer}
+use Rattle.rows.proofs.RowLaws.{Row}
 use Rattle.flatten.specs.Flat.{Full}
 use Rattle.flatten.specs.Records.{Collected}
 use Rattle.edgelist.specs.Lent.{RecordsAnswered, LentAnswered}
@@ -62,7 +63,7 @@ use Rattle.edgelist.proofs.find_rows_of_records.Statement as stated
 use Rattle.edgelist.proofs.find_rows_of_records.Code as code
 
 abbrev stayed : Stays (find-rows-of-records.ended .signature .params) (find-rows-of-records.ended .kept)
-stayed = (stay-none (λ _. usize) yes, (stay-none-slice (0 ∷ []) tt (plain (λ _. T.the-row)) yes, (gave-slice (1 ∷ []) tt (plain (λ _. u8)), tt)))
+stayed = (stay-none (λ _. usize) yes, (stay-none-slice (0 ∷ []) tt (plain (λ _. T.the-row)) yes, (gave-slice (1 ∷ []) tt (plain (λ _. Row)), tt)))
 
 -- three facts beside what is had: the contract has three clauses
 module _ {M : Type 1} (𝓤 : URA M) where
@@ -103,9 +104,9 @@ module _ {M : Type 1} (𝓤 : URA M) (H : Heap 𝓤) (A : Atoms 𝓤) (mem : Mem
         nothing ! $ move ! (2 ∷ 0 ∷ []) $ fjoin ! $ nothing ! $ move ! (2 ∷ 0 ∷ []) $ join ! $ join ! $ frame ! $ done !
 
     goes-answer : (κ : Lft) (q : Share) (n : ℕ) (f : Flat) (u : Val) (m : ℕ) (y : RefT (List ℕ)) → n < 2 ^ 64 → m < 2 ^ 64 → Is F.the-row f (u ∷ []) → Full f
-        → ent 𝓤 (⋆ 𝓤 H A ((‵ (flft κ q) ⊛ ‵ ftrue) ∷ ‵ (MutSlice (named 0) κ u8 .own y (sliceVal (y .ptr) (length (now y)) ∷ [])) ∷ [])) (AnswerLent .pre (to-answer κ q n f u m y))
+        → ent 𝓤 (⋆ 𝓤 H A ((‵ (flft κ q) ⊛ ‵ ftrue) ∷ ‵ (MutSlice (named 0) κ Row .own y (sliceVal (y .ptr) (length (now y)) ∷ [])) ∷ [])) (AnswerLent .pre (to-answer κ q n f u m y))
     goes-answer κ q n f u m y g h p l =
-        qed W ((‵ (flft κ q) ⊛ ‵ ftrue) ∷ ‵ (MutSlice (named 0) κ u8 .own y (sliceVal (y .ptr) (length (now y)) ∷ [])) ∷ []) ∵
+        qed W ((‵ (flft κ q) ⊛ ‵ ftrue) ∷ ‵ (MutSlice (named 0) κ Row .own y (sliceVal (y .ptr) (length (now y)) ∷ [])) ∷ []) ∵
         says ! {P = onEntry 𝓤 H A answer-lent.signature (κ, tt) (q, tt) (n, (f, (m, (y, tt)))) (vint w64 n ∷ [], (u ∷ [], (vint w64 m ∷ [], (sliceVal (y .ptr) (length (now y)) ∷ [], tt))))} l $ frame ! $
         nothing ! $ move ! (1 ∷ 0 ∷ []) $ fjoin ! $ owned ! usize (Is usize) (uint-makes 𝓤 H A W w64) m _ (refl, h) $ fjoin ! $ owned ! F.the-row (Is F.the-row) (LL.makes F.the-type F′.the-plain 𝓤 H A) f _ p $ fjoin ! $
         owned ! usize (Is usize) (uint-makes 𝓤 H A W w64) n _ (refl, g) $ fjoin ! $ done !
@@ -130,19 +131,19 @@ module _ {M : Type 1} (𝓤 : URA M) (H : Heap 𝓤) (A : Atoms 𝓤) (W : Given
   OwnX = ‵ (ShrSlice (named 0) κ₀ T.the-row .own x (vx ∷ []))
 
   exits : (r : RowsAnswer) (w : Val) (zs : List ℕ) → RecordsAnswered n (now x) (now y) zs r → length zs ≡ length (now y)
-      → ent 𝓤 (⋆ 𝓤 H A (‵ (flft κ₀ q₀) ∷ ‵ (flft κ₁ q₁) ∷ OwnX ∷ ‵ (finally u8 (y .name) zs) ∷ ‵ (S.the-row .own r (w ∷ [])) ∷ [])) (Post w)
+      → ent 𝓤 (⋆ 𝓤 H A (‵ (flft κ₀ q₀) ∷ ‵ (flft κ₁ q₁) ∷ OwnX ∷ ‵ (finally Row (y .name) zs) ∷ ‵ (S.the-row .own r (w ∷ [])) ∷ [])) (Post w)
   exits r w zs e l =
-      qed W (‵ (flft κ₀ q₀) ∷ ‵ (flft κ₁ q₁) ∷ OwnX ∷ ‵ (finally u8 (y .name) zs) ∷ ‵ (S.the-row .own r (w ∷ [])) ∷ []) ∵
+      qed W (‵ (flft κ₀ q₀) ∷ ‵ (flft κ₁ q₁) ∷ OwnX ∷ ‵ (finally Row (y .name) zs) ∷ ‵ (S.the-row .own r (w ∷ [])) ∷ []) ∵
       suffices ! _ (ends-at 𝓤 H A find-rows-of-records.ended stayed (find-rows-of-records.clauses 𝓤 H A mem run) W bound w r (tt, (tt, (zs, tt))) (tt, (tt, (l, tt)))) $
       suffices ! _ (with-three 𝓤 _ _ _ _ e) $
       nothing ! $ move ! (2 ∷ 0 ∷ []) $ join ! $ move ! (1 ∷ 0 ∷ []) $ join ! $ frame ! $
       nothing ! $ move ! (2 ∷ 0 ∷ []) $ fjoin ! $ move ! (1 ∷ 0 ∷ []) $ fjoin ! $ owned ! usize (Is usize) (uint-makes 𝓤 H A W w64) n _ (refl, fits) $ fjoin ! $ frame ! $ done !
 
   module _ (𝓣 : Tables 𝓤 H) (known-flatten : Triple 𝓤 (𝓣 .C #flatten-records) (FlattenRecords 𝓤 H A mem run)) (known-answer : Triple 𝓤 (𝓣 .C #answer-lent) (AnswerLent 𝓤 H A mem run))
-      (roomX : Room T.the-row (length (now x))) (roomY : Room u8 (length (now y))) where
+      (roomX : Room T.the-row (length (now x))) (roomY : Room Row (length (now y))) where
     walk : ent 𝓤 (onEntry 𝓤 H A find-rows-of-records.signature (κ₀, (κ₁, tt)) (q₀, (q₁, tt)) (n, (x, (y, tt))) (vint w64 n ∷ [], (vx ∷ [], (vy ∷ [], tt)))) (WpFn 𝓤 H (𝓣 .C) (𝓣 .Λ) code.function (vint w64 n ∷ vx ∷ vy ∷ []) Post)
     walk =
-        qed W ((‵ (flft κ₀ q₀) ⊛ (‵ (flft κ₁ q₁) ⊛ ‵ ftrue)) ∷ ‵ (owns (usize ∷ ShrSlice (named 0) κ₀ T.the-row ∷ MutSlice (named 1) κ₁ u8 ∷ []) (n, (x, (y, tt))) (vint w64 n ∷ [], (vx ∷ [], (vy ∷ [], tt)))) ∷ []) ∵
+        qed W ((‵ (flft κ₀ q₀) ⊛ (‵ (flft κ₁ q₁) ⊛ ‵ ftrue)) ∷ ‵ (owns (usize ∷ ShrSlice (named 0) κ₀ T.the-row ∷ MutSlice (named 1) κ₁ Row ∷ []) (n, (x, (y, tt))) (vint w64 n ∷ [], (vx ∷ [], (vy ∷ [], tt)))) ∷ []) ∵
         enter ! (𝓣 .C) (𝓣 .Λ) code.function (vint w64 n ∷ vx ∷ vy ∷ []) _ $
         alloc1 ! (λ l₀. alloc1 ! (λ l₁. alloc1 ! (λ l₂. alloc1 ! (λ l₃. alloc1 ! (λ l₄. alloc1 ! (λ l₅. alloc1 ! (λ l₆. alloc1 ! (λ l₇. alloc0 ! $ params1 ! $
         pass1 ! (init ! 12 refl (tt, record { fits = fits })) $ pass1 ! (init ! 10 refl (tt, (tt, (record { fits = roomX .0 }, tt)))) $ pass1 ! (init ! 8 refl (tt, (tt, (record { fits = roomY .0 }, tt)))) $ pass0 ! $
@@ -178,14 +179,14 @@ module _ {M : Type 1} (𝓤 : URA M) (H : Heap 𝓤) (A : Atoms 𝓤) (W : Given
   walks : Walks 𝓤 H A find-rows-of-records.ended stayed (WpFn 𝓤 H (𝓣 .C) (𝓣 .Λ) code.function) (find-rows-of-records.clauses 𝓤 H A mem run)
   walks =
       walked 𝓤 H A find-rows-of-records.ended stayed (find-rows-of-records.clauses 𝓤 H A mem run) (WpFn 𝓤 H (𝓣 .C) (𝓣 .Λ) code.function)
-      (λ κs. (uint-vals w64, (slice-vals, (slice-vals, tt)))) (λ κs. (uint-tells w64, (shr-slice-tells (named 0) (κs .0) T.the-row, (mut-slice-tells (named 1) (κs .1 .0) u8, tt))))
+      (λ κs. (uint-vals w64, (slice-vals, (slice-vals, tt)))) (λ κs. (uint-tells w64, (shr-slice-tells (named 0) (κs .0) T.the-row, (mut-slice-tells (named 1) (κs .1 .0) Row, tt))))
       (λ κs qs bounds a g are. via 𝓤 _ (fst∗ 𝓤 _ (emp 𝓤))
       (walk 𝓤 H A W mem run (κs .0) (κs .1 .0) (qs .0) (qs .1 .0) (a .0) (a .1 .0) (a .1 .1 .0) (are .0 .1) 𝓣 known-flatten known-answer (are .1 .0 .0 .1) (are .1 .1 .0 .0 .1)))
 
   meets : Meets 𝓤 H A find-rows-of-records.signature (WpFn 𝓤 H (𝓣 .C) (𝓣 .Λ) code.function) (find-rows-of-records.spec 𝓤 H A mem run)
   meets =
       walk-meets 𝓤 H A find-rows-of-records.ended stayed W
-      (goes-none 𝓤 H A W 2 (λ _. usize) yes (λ κs x f. refl), (goes-none-slice 𝓤 H A W 2 (0 ∷ []) tt (plain (λ _. T.the-row)) yes, (goes-gave-slice 𝓤 H A W 2 1 tt (plain (λ _. u8)), tt)))
+      (goes-none 𝓤 H A W 2 (λ _. usize) yes (λ κs x f. refl), (goes-none-slice 𝓤 H A W 2 (0 ∷ []) tt (plain (λ _. T.the-row)) yes, (goes-gave-slice 𝓤 H A W 2 1 tt (plain (λ _. Row)), tt)))
       (find-rows-of-records.clauses 𝓤 H A mem run) (WpFn 𝓤 H (𝓣 .C) (𝓣 .Λ) code.function) (WpFn-mono 𝓤 H (W .laws) 𝓣 code.function) walks
 
 pub find-rows-of-records-spec : {M : Type 1} → stated.statement M

@@ -1,6 +1,6 @@
 -- `read_table_by` meets its contract: the edition, then the lists, as in `tableAt`.
 use mathlib.Core.Path.{refl, sym, ap, _∙_}
-use Rattle.table.specs.Table.{tableAt, readBy, outcome}
+use Rattle.table.specs.Table.{outcome, tableWithin, readWithin}
 use Rattle.table.specs.Number.{numberRead}
 use Rattle.table.specs.Calls.{tableRead}
 use Rattle.table.proofs.ThenLaws.{then-fault, then-got}
@@ -24,11 +24,11 @@ read-lists-requires : tie.Need-read-lists-requires
 read-lists-requires c κs = tt
 
 returns : tie.Need-returns
-unfolding readBy tableAt
+unfolding readWithin tableWithin
 returns c = whole-read _ _ (c .refuse-table .ensures ∙ ap (λ x. tableRead (outcome x)) (then-fault _ (sym (c .before .before .before .before .number-in .ensures) ∙ ap numberRead (c .before .before .f .given .1))))
 
 returns-2 : tie.Need-returns-2
-unfolding readBy tableAt
+unfolding readWithin tableWithin
 returns-2 c = whole-read _ _ (c .read-lists .ensures ∙ ap (λ x. tableRead (outcome x)) (then-got _ (sym (c .before .before .before .before .number-in .ensures) ∙ ap numberRead (c .before .before .edition .given .1)) refl))
 
 pub read-table-by-spec : {M : Type 1} → statement M

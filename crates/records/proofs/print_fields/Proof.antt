@@ -13,6 +13,9 @@ abbrev μ-loop : tie.MeasureT-loop
 loop-holds : tie.Need-loop-holds Inv-loop μ-loop
 loop-holds c = omega arith
 
+mul-print-row : tie.Need-mul-print-row Inv-loop μ-loop
+mul-print-row c = omega arith
+
 shared-slice-read-print-row : tie.Need-shared-slice-read-print-row Inv-loop μ-loop
 shared-slice-read-print-row c = omega arith
 
@@ -38,6 +41,7 @@ print-fields-spec =
     Inv-loop
     μ-loop
     loop-holds
+    mul-print-row
     shared-slice-read-print-row
     print-row-requires
     add-i

@@ -17,11 +17,11 @@ returns c = handed-few-rows _ (c .before .before .before .before .before .pre) _
 returns-2 : tie.Need-returns-2
 returns-2 c = handed-few-points _ (c .before .before .before .before .before .before .pre) _ _ (c .before .before .enum-told .given .1) (c .before .if1 .left) (c .if2 .taken)
 
-slice-aggregate-store-u8 : tie.Need-slice-aggregate-store-u8
-slice-aggregate-store-u8 c = search needs
+slice-aggregate-store-u16 : tie.Need-slice-aggregate-store-u16
+slice-aggregate-store-u16 c = search needs
 
-store-u8-requires : tie.Need-store-u8-requires
-store-u8-requires c κs =
+store-u16-requires : tie.Need-store-u16-requires
+store-u16-requires c κs =
     let after-enum-told = c .before .before .before .before .before .before in
     let start = after-enum-told .before .before .before .before in
     let t = start .pre .storable (after-enum-told .enum-told .given .1) in (t .few-rows, (c .before .before .before .before .before .if1 .left, λ v h. omega (arith, t .low-rows v h)))
@@ -47,12 +47,12 @@ same-length-2 c = search needs
 
 returns-4 : tie.Need-returns-4
 returns-4 c =
-    let after-store-u8 = c .before .before .before .before .before .before .before in
-    let after-if2 = after-store-u8 .before .before .before .before .before in
+    let after-store-u16 = c .before .before .before .before .before .before .before in
+    let after-if2 = after-store-u16 .before .before .before .before .before in
     let after-if1 = after-if2 .before in
     let after-enum-told = after-if1 .before in
     let start = after-enum-told .before .before .before .before in
-    handed-done _ (start .pre) _ _ (after-enum-told .enum-told .given .1) (after-if1 .if1 .left) (after-if2 .if2 .left) _ _ (after-store-u8 .store-u8 .ensures) (c .before .before .copy-points .ensures)
+    handed-done _ (start .pre) _ _ (after-enum-told .enum-told .given .1) (after-if1 .if1 .left) (after-if2 .if2 .left) _ _ (after-store-u16 .store-u16 .ensures) (c .before .before .copy-points .ensures)
 
 pub hand-out-chart-spec : {M : Type 1} → statement M
 hand-out-chart-spec =
@@ -62,8 +62,8 @@ hand-out-chart-spec =
     enum-told
     returns
     returns-2
-    slice-aggregate-store-u8
-    store-u8-requires
+    slice-aggregate-store-u16
+    store-u16-requires
     slice-aggregate-copy-points
     copy-points-requires
     returns-3

@@ -1,7 +1,7 @@
 -- `lists::edges_at` meets its contract: the count is within the limit, so the edges fit the array.
 use mathlib.Core.Path.{refl, sym, ap, _∙_}
 use Rattle.table.specs.Number.{numberRead}
-use Rattle.table.specs.Table.{edgesAt}
+use Rattle.table.specs.Table.{edgesWithin}
 use Rattle.table.proofs.NumberLaws.{in-limits}
 use Rattle.table.proofs.WholeLaws.{read-as}
 use Rattle.table.proofs.ThenLaws.{then-fault, then-got}
@@ -24,11 +24,11 @@ many-edges-requires : tie.Need-many-edges-requires
 many-edges-requires c κs = (c .before .before .before .before .before .pre, in-limits _ _ _ _ _ _ (sym (c .before .before .before .number-in .ensures) ∙ ap numberRead (c .before .m .given .1)) .1)
 
 returns : tie.Need-returns
-unfolding edgesAt
+unfolding edgesWithin
 returns c = read-as (c .no-edges .ensures) (then-fault _ (sym (c .before .before .before .before .number-in .ensures) ∙ ap numberRead (c .before .before .f .given .1)))
 
 returns-2 : tie.Need-returns-2
-unfolding edgesAt
+unfolding edgesWithin
 returns-2 c = read-as (c .many-edges .ensures) (then-got _ (sym (c .before .before .before .before .number-in .ensures) ∙ ap numberRead (c .before .before .m .given .1)) refl)
 
 pub edges-at-spec : {M : Type 1} → statement M

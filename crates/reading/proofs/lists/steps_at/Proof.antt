@@ -1,7 +1,7 @@
 -- `lists::steps_at` meets its contract: the count is within the limit, so the steps fit the array.
 use mathlib.Core.Path.{refl, sym, ap, _∙_}
 use Rattle.table.specs.Number.{numberRead}
-use Rattle.table.specs.Table.{stepsAt}
+use Rattle.table.specs.Table.{stepsWithin}
 use Rattle.table.proofs.NumberLaws.{in-limits}
 use Rattle.table.proofs.WholeLaws.{read-as}
 use Rattle.table.proofs.ThenLaws.{then-fault, then-got}
@@ -24,11 +24,11 @@ many-steps-requires : tie.Need-many-steps-requires
 many-steps-requires c κs = in-limits _ _ _ _ _ _ (sym (c .before .before .before .number-in .ensures) ∙ ap numberRead (c .before .n .given .1)) .1
 
 returns : tie.Need-returns
-unfolding stepsAt
+unfolding stepsWithin
 returns c = read-as (c .no-steps .ensures) (then-fault _ (sym (c .before .before .before .before .number-in .ensures) ∙ ap numberRead (c .before .before .f .given .1)))
 
 returns-2 : tie.Need-returns-2
-unfolding stepsAt
+unfolding stepsWithin
 returns-2 c = read-as (c .many-steps .ensures) (then-got _ (sym (c .before .before .before .before .number-in .ensures) ∙ ap numberRead (c .before .before .n .given .1)) refl)
 
 pub steps-at-spec : {M : Type 1} → statement M

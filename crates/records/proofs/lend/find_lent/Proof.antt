@@ -35,7 +35,7 @@ use denote.Ref.{RefT, now}
 use denote.Slice.{sliceVal, ShrSlice, MutSlice, Room, slice-vals, mut-slice-tells, finally}
 use denote.Lend.{lends-shr-slice}
 use denote.Signature.{plain}
-use denote.Builtin.{usize, u8, ArrayOf}
+use denote.Builtin.{usize, ArrayOf}
 use denote.Steps.{nothing, owned, peeks, heard}
 use denote.Enum.Laws as EL
 use denote.Struct.Laws as LL
@@ -51,6 +51,7 @@ use denote.Exit.{yes}
 use Rattle.graph.specs.declared.Edge.{Edge}
 use Rattle.graph.proofs.Edge as T
 use Rattle.graph.proofs.Edge.Laws as T′
+use Rattle.rows.proofs.RowLaws.{Row}
 use Rattle.rows.specs.declared.types.RowsAnswer.{RowsAnswer}
 use Rattle.rows.specs.Answers.{rowsNumbers}
 use Rattle.edgelist.specs.Calls.{recordCall, RecordsBest}
@@ -61,6 +62,7 @@ use Rattle.edgelist.proofs.find_rows_of_records as find-rows
 use Rattle.edgelist.proofs.find_rows_of_records.Symbol as find-rows-def
 use Rattle.edgelist.proofs.find_rows_of_records.Symbol.{name as #find-rows}
 use Rattle.edgelist.proofs.find_rows_of_records.Met as find-rows-thm
+use Rattle.records.specs.Input.{maxLent}
 use Rattle.records.proofs.lend.find_lent.Key.{name as #find-lent}
 use Rattle.records.proofs.lend.find_lent as find-lent
 use Rattle.records.proofs.lend.find_lent.Statement as stated
@@ -70,16 +72,16 @@ abbrev stayed : Stays (find-lent.ended .signature .params) (find-lent.ended .kep
 stayed = (
   stay-dropped (plain (λ _. usize)) yes,
   (
-    stay-dropped (ArrayOf (plain (λ _. T.the-row)) (λ _. tt) 200) yes,
+    stay-dropped (ArrayOf (plain (λ _. T.the-row)) (λ _. tt) maxLent) yes,
     (
       stay-dropped (plain (λ _. usize)) yes,
-      (gave-slice (0 ∷ []) tt (plain (λ _. u8)), tt),
+      (gave-slice (0 ∷ []) tt (plain (λ _. Row)), tt),
     ),
   ),
 )
 
 abbrev Edges : RattleType
-Edges = Array T.the-row 200
+Edges = Array T.the-row maxLent
 
 abbrev edge-vals : Edge → List Val
 edge-vals = LL.vals T.the-type T′.the-laws
@@ -90,7 +92,7 @@ only (v ∷ vs) = v
 
 -- the machine type and the machine value of the edges
 abbrev array : Ty
-array = tyArray T′.mir 200
+array = tyArray T′.mir maxLent
 
 abbrev mach : List Edge → Val
 mach xs = only (array-vals edge-vals xs)
@@ -102,7 +104,7 @@ behind (suc m) [] b o = ftrue
 behind (suc m) (x ∷ xs) b o = behind m xs b (o + mem T.the-row .size)
 
 -- so few edges have room
-roomy : (k : ℕ) → k ≤ 200 → Room T.the-row k
+roomy : (k : ℕ) → k ≤ maxLent → Room T.the-row k
 roomy k few = (count, bytes)
   where
     count : k < 2 ^ 64
@@ -111,7 +113,7 @@ roomy k few = (count, bytes)
     bytes : k * 32 < 2 ^ 63
     bytes = omega (arith, few)
 
-long-take : (m : ℕ) (xs : List Edge) → length xs ≡ 200 → m ≤ 200 → length (take m xs) ≡ m
+long-take : (m : ℕ) (xs : List Edge) → length xs ≡ maxLent → m ≤ maxLent → length (take m xs) ≡ m
 long-take m xs long few = omega (arith, length-take m xs, long, few)
 
 -- three facts beside what is had: the contract has three clauses
@@ -152,19 +154,19 @@ module _ {M : Type 1} (𝓤 : URA M) (H : Heap 𝓤) (A : Atoms 𝓤) where
 
   module _ (W : Given 𝓤 H A) where
     -- an array in a local is its edges in memory, and back
-    array-out : (l : ℕ) (xs : List Edge) (v : Val) → ent 𝓤 (⋆ 𝓤 H A (‵ (fat fullShare array l 0 v) ∷ ‵ (Edges .own xs (v ∷ [])) ∷ [])) (sem 𝓤 H A (arr-parts (shares T.the-row) 200 .part fullShare xs l 0))
+    array-out : (l : ℕ) (xs : List Edge) (v : Val) → ent 𝓤 (⋆ 𝓤 H A (‵ (fat fullShare array l 0 v) ∷ ‵ (Edges .own xs (v ∷ [])) ∷ [])) (sem 𝓤 H A (arr-parts (shares T.the-row) maxLent .part fullShare xs l 0))
     unfolding partOf
     array-out l xs v =
         qed W (‵ (fat fullShare array l 0 v) ∷ ‵ (Edges .own xs (v ∷ [])) ∷ []) ∵
         use1 W (‵ (cellAt fullShare (Edges .mir) (v ∷ []) l 0)) (W .laws .at-raw fullShare array l 0 v) $ fjoin ! $ fpack ! (List Val) (λ us. fsep (cellAt fullShare (Edges .mir) us l 0) (Edges .own xs us)) (v ∷ []) $
-        use1 W (‵ (arr-parts (shares T.the-row) 200 .part fullShare xs l 0)) (array-apart 𝓤 H A W T.the-row fullShare tt 200 xs l 0) $ done !
+        use1 W (‵ (arr-parts (shares T.the-row) maxLent .part fullShare xs l 0)) (array-apart 𝓤 H A W T.the-row fullShare tt maxLent xs l 0) $ done !
 
-    array-in : (l : ℕ) (xs : List Edge) → length xs ≡ 200 → ent 𝓤 (sem 𝓤 H A (row T.the-row fullShare xs l 0)) (⋆ 𝓤 H A (‵ (fat fullShare array l 0 (mach xs)) ∷ ‵ (Edges .own xs (mach xs ∷ [])) ∷ []))
+    array-in : (l : ℕ) (xs : List Edge) → length xs ≡ maxLent → ent 𝓤 (sem 𝓤 H A (row T.the-row fullShare xs l 0)) (⋆ 𝓤 H A (‵ (fat fullShare array l 0 (mach xs)) ∷ ‵ (Edges .own xs (mach xs ∷ [])) ∷ []))
     unfolding partOf
     array-in l xs long =
-        qed W (‵ (row T.the-row fullShare xs l 0) ∷ []) ∵ feqI ! ℕ (length xs) 200 long $ fjoin ! $
-        use1 W (‵ (partAt Edges fullShare xs l 0)) (array-whole 𝓤 H A W T.the-row fullShare 200 xs l 0) $ fpick ! (λ vs. fsplit ! $
-        spelt ! Edges (Is Edges) (shows 𝓤 H A Edges) (array-vals edge-vals) (array-tells T.the-row edge-vals (LL.tells T.the-type T′.the-laws) 200) fullShare xs vs l 0 $
+        qed W (‵ (row T.the-row fullShare xs l 0) ∷ []) ∵ feqI ! ℕ (length xs) maxLent long $ fjoin ! $
+        use1 W (‵ (partAt Edges fullShare xs l 0)) (array-whole 𝓤 H A W T.the-row fullShare maxLent xs l 0) $ fpick ! (λ vs. fsplit ! $
+        spelt ! Edges (Is Edges) (shows 𝓤 H A Edges) (array-vals edge-vals) (array-tells T.the-row edge-vals (LL.tells T.the-type T′.the-laws) maxLent) fullShare xs vs l 0 $
         use1 W (‵ (fat fullShare array l 0 (mach xs))) (W .laws .raw-at fullShare array l 0 (mach xs)) $ done !)
 
 module _ {M : Type 1} (𝓤 : URA M) (H : Heap 𝓤) (A : Atoms 𝓤) (memory : Memory → SProp 𝓤) (run : Routine → Fun 𝓤) where
@@ -177,10 +179,10 @@ module _ {M : Type 1} (𝓤 : URA M) (H : Heap 𝓤) (A : Atoms 𝓤) (memory : 
 
   module _ (W : Given 𝓤 H A) where
     goes-find : (α : ℕ) (κ : Lft) (q : Share) (n : ℕ) (x : RefT (List Edge)) (m : ℕ) (y : RefT (List ℕ)) → n < 2 ^ 64
-        → ent 𝓤 (⋆ 𝓤 H A ((‵ (flft (α ∷ []) fullShare) ⊛ ‵ (ShrSlice (named 0) (α ∷ []) T.the-row .own x (sliceVal (x .ptr) m ∷ []))) ∷ (‵ (flft κ q) ⊛ ‵ ftrue) ∷ ‵ (MutSlice (named 0) κ u8 .own y (sliceVal (y .ptr) (length (now y)) ∷ [])) ∷ []))
+        → ent 𝓤 (⋆ 𝓤 H A ((‵ (flft (α ∷ []) fullShare) ⊛ ‵ (ShrSlice (named 0) (α ∷ []) T.the-row .own x (sliceVal (x .ptr) m ∷ []))) ∷ (‵ (flft κ q) ⊛ ‵ ftrue) ∷ ‵ (MutSlice (named 0) κ Row .own y (sliceVal (y .ptr) (length (now y)) ∷ [])) ∷ []))
         (FindRows .pre (to-find α κ q n x m y))
     goes-find α κ q n x m y fits =
-        qed W ((‵ (flft (α ∷ []) fullShare) ⊛ ‵ (ShrSlice (named 0) (α ∷ []) T.the-row .own x (sliceVal (x .ptr) m ∷ []))) ∷ (‵ (flft κ q) ⊛ ‵ ftrue) ∷ ‵ (MutSlice (named 0) κ u8 .own y (sliceVal (y .ptr) (length (now y)) ∷ [])) ∷ []) ∵
+        qed W ((‵ (flft (α ∷ []) fullShare) ⊛ ‵ (ShrSlice (named 0) (α ∷ []) T.the-row .own x (sliceVal (x .ptr) m ∷ []))) ∷ (‵ (flft κ q) ⊛ ‵ ftrue) ∷ ‵ (MutSlice (named 0) κ Row .own y (sliceVal (y .ptr) (length (now y)) ∷ [])) ∷ []) ∵
         split ! $ nothing ! $ move ! (4 ∷ 0 ∷ []) $ fjoin ! $ move ! (2 ∷ 0 ∷ []) $ fjoin ! $ owned ! usize (Is usize) (uint-makes 𝓤 H A W w64) n _ (refl, fits) $ fjoin ! $
         move ! (1 ∷ 2 ∷ []) $ join ! $ join ! $ frame ! $ done !
 
@@ -195,14 +197,14 @@ module _ {M : Type 1} (𝓤 : URA M) (H : Heap 𝓤) (A : Atoms 𝓤) (W : Given
   Post = walkOf 𝓤 H A find-lent.ended stayed (find-lent.clauses 𝓤 H A memory run) .post bound
 
   exits : (r : RowsAnswer) (w : Val) (zs : List ℕ) → RecordsAnswered n (take m f) (now y) zs r → length zs ≡ length (now y)
-      → ent 𝓤 (⋆ 𝓤 H A (‵ (S.the-row .own r (w ∷ [])) ∷ (‵ (flft κ q) ⊛ ‵ ftrue) ∷ ‵ (finally u8 (y .name) zs) ∷ [])) (Post w)
+      → ent 𝓤 (⋆ 𝓤 H A (‵ (S.the-row .own r (w ∷ [])) ∷ (‵ (flft κ q) ⊛ ‵ ftrue) ∷ ‵ (finally Row (y .name) zs) ∷ [])) (Post w)
   exits r w zs e l =
-      qed W (‵ (S.the-row .own r (w ∷ [])) ∷ (‵ (flft κ q) ⊛ ‵ ftrue) ∷ ‵ (finally u8 (y .name) zs) ∷ []) ∵
+      qed W (‵ (S.the-row .own r (w ∷ [])) ∷ (‵ (flft κ q) ⊛ ‵ ftrue) ∷ ‵ (finally Row (y .name) zs) ∷ []) ∵
       suffices ! _ (ends-at 𝓤 H A find-lent.ended stayed (find-lent.clauses 𝓤 H A memory run) W bound w r (tt, (tt, (tt, (zs, tt)))) (tt, (tt, (tt, (l, tt))))) $
       suffices ! _ (with-three 𝓤 _ _ _ _ e) $ move ! (1 ∷ []) $ frame ! $
       nothing ! $ move ! (2 ∷ 0 ∷ []) $ fjoin ! $ nothing ! $ fjoin ! $ nothing ! $ fjoin ! $ nothing ! $ fjoin ! $ frame ! $ done !
 
-  module _ (𝓣 : Tables 𝓤 H) (known : Triple 𝓤 (𝓣 .C #find-rows) (FindRows 𝓤 H A memory run)) (fits : n < 2 ^ 64) (is : Is Edges f (mach f ∷ [])) (few : m ≤ 200) (roomY : Room u8 (length (now y))) where
+  module _ (𝓣 : Tables 𝓤 H) (known : Triple 𝓤 (𝓣 .C #find-rows) (FindRows 𝓤 H A memory run)) (fits : n < 2 ^ 64) (is : Is Edges f (mach f ∷ [])) (few : m ≤ maxLent) (roomY : Room Row (length (now y))) where
     small : m < 2 ^ 64
     small = omega (arith, few)
 
@@ -219,7 +221,7 @@ module _ {M : Type 1} (𝓤 : URA M) (H : Heap 𝓤) (A : Atoms 𝓤) (W : Given
     walk : ent 𝓤 (onEntry 𝓤 H A find-lent.signature (κ, tt) (q, tt) (n, (f, (m, (y, tt)))) (vint w64 n ∷ [], (mach f ∷ [], (vint w64 m ∷ [], (vy ∷ [], tt)))))
         (WpFn 𝓤 H (𝓣 .C) (𝓣 .Λ) code.function (vint w64 n ∷ mach f ∷ vint w64 m ∷ vy ∷ []) Post)
     walk =
-        qed W ((‵ (flft κ q) ⊛ ‵ ftrue) ∷ ‵ (owns (usize ∷ Edges ∷ usize ∷ MutSlice (named 0) κ u8 ∷ []) (n, (f, (m, (y, tt)))) (vint w64 n ∷ [], (mach f ∷ [], (vint w64 m ∷ [], (vy ∷ [], tt))))) ∷ []) ∵
+        qed W ((‵ (flft κ q) ⊛ ‵ ftrue) ∷ ‵ (owns (usize ∷ Edges ∷ usize ∷ MutSlice (named 0) κ Row ∷ []) (n, (f, (m, (y, tt)))) (vint w64 n ∷ [], (mach f ∷ [], (vint w64 m ∷ [], (vy ∷ [], tt))))) ∷ []) ∵
         enter ! (𝓣 .C) (𝓣 .Λ) code.function (vint w64 n ∷ mach f ∷ vint w64 m ∷ vy ∷ []) _ $
         alloc1 ! (λ l₀. alloc1 ! (λ l₁. alloc1 ! (λ l₂. alloc1 ! (λ l₃. alloc1 ! (λ l₄. alloc1 ! (λ l₅. alloc1 ! (λ l₆. alloc1 ! (λ l₇. alloc1 ! (λ l₈. alloc1 ! (λ l₉. alloc0 ! $ params1 ! $
         pass1 ! (init ! 16 refl (tt, record { fits = fits })) $ pass1 ! (init ! 14 refl typed) $ pass1 ! (init ! 12 refl (tt, record { fits = small })) $ pass1 ! (init ! 10 refl (tt, (tt, (record { fits = roomY .0 }, tt)))) $ pass0 ! $
@@ -230,7 +232,7 @@ module _ {M : Type 1} (𝓤 : URA M) (H : Heap 𝓤) (A : Atoms 𝓤) (W : Given
         assigns ! (agg ! (and-then ! (load ! (from ! (stop !)) (look ! 2 refl)) (and-then ! (load ! (from ! (fld ! refl (stop !))) (look-in ! 10 (sub ! 1 refl (whole !)))) (no-more !)))) (from ! (stop !)) (init ! 0 refl (tt, (tt, (record { fits = roomY .0 }, tt)))) $
         move ! (21 ∷ []) $ fsplit ! $ drop ! $ fsplit ! $ move ! (1 ∷ []) $ fsplit ! $ drop ! $ fsplit ! $ move ! (1 ∷ []) $ drop ! $
         -- [what rows owns; what edges owns; _9; …]
-        move ! (10 ∷ 1 ∷ []) $ use2 W (‵ (arr-parts (shares T.the-row) 200 .part fullShare f l₅ 0)) (array-out 𝓤 H A W l₅ f (mach f)) $ fsplit ! $ feqL ! (λ long.
+        move ! (10 ∷ 1 ∷ []) $ use2 W (‵ (arr-parts (shares T.the-row) maxLent .part fullShare f l₅ 0)) (array-out 𝓤 H A W l₅ f (mach f)) $ fsplit ! $ feqL ! (λ long.
         use1 W (‵ (row T.the-row fullShare (take m f) l₅ 0) ⊛ ‵ (behind m f l₅ 0)) (cut 𝓤 H A m f l₅ 0) $ split ! $
         feqI ! ℕ (length (take m f)) (length (take m f)) refl $ fjoin ! $ lft-new ! tt (λ α. move ! (1 ∷ []) $
         use1 W (later (some (λ (γ : GName). ‵ (OwnLent α l₅ γ (length (take m f))) ⊛ ‵ (flent (α ∷ []) (Part l₅))))) (lends-shr-slice 𝓤 H A W T.the-row (named 0) (α ∷ []) fullShare (take m f) l₅ 0 (held long)) $ await ! tt $ pick ! (λ γ.
@@ -260,9 +262,9 @@ module _ {M : Type 1} (𝓤 : URA M) (H : Heap 𝓤) (A : Atoms 𝓤) (W : Given
         by ! (exits r w (zs .1 .1 .0) (e₀, (e₁, e₂)) l))))))))))))))))))))))
       where
         typed : Holds (hasTy array (mach f)) × WT (mach f)
-        typed = array-lawful 𝓤 H A W T.the-row (LL.lawful T.the-type T′.the-laws 𝓤 H A W) 200 .typed f (mach f ∷ []) is .0
+        typed = array-lawful 𝓤 H A W T.the-row (LL.lawful T.the-type T′.the-laws 𝓤 H A W) maxLent .typed f (mach f ∷ []) is .0
 
-        held : length f ≡ 200 → Room T.the-row (length (take m f))
+        held : length f ≡ maxLent → Room T.the-row (length (take m f))
         held long = roomy (length (take m f)) (omega (arith, long-take m f long few, few))
 
 module _ {M : Type 1} (𝓤 : URA M) (H : Heap 𝓤) (A : Atoms 𝓤) (W : Given 𝓤 H A) (memory : Memory → SProp 𝓤) (run : Routine → Fun 𝓤) (𝓣 : Tables 𝓤 H) (known : Triple 𝓤 (𝓣 .C #find-rows) (FindRows 𝓤 H A memory run)) where
@@ -270,8 +272,8 @@ module _ {M : Type 1} (𝓤 : URA M) (H : Heap 𝓤) (A : Atoms 𝓤) (W : Given
   walks =
       walked 𝓤 H A find-lent.ended stayed (find-lent.clauses 𝓤 H A memory run) (WpFn 𝓤 H (𝓣 .C) (𝓣 .Λ) code.function)
       (λ κs. (uint-vals w64, (array-vals edge-vals, (uint-vals w64, (slice-vals, tt)))))
-      (λ κs. (uint-tells w64, (array-tells T.the-row edge-vals (LL.tells T.the-type T′.the-laws) 200, (uint-tells w64, (mut-slice-tells (named 0) (κs .0) u8, tt)))))
-      (λ κs qs bounds a g are. needs 𝓤 (a .1 .1 .0 ≤ 200) _ (λ few.
+      (λ κs. (uint-tells w64, (array-tells T.the-row edge-vals (LL.tells T.the-type T′.the-laws) maxLent, (uint-tells w64, (mut-slice-tells (named 0) (κs .0) Row, tt)))))
+      (λ κs qs bounds a g are. needs 𝓤 (a .1 .1 .0 ≤ maxLent) _ (λ few.
       walk 𝓤 H A W memory run (κs .0) (qs .0) (a .0) (a .1 .0) (a .1 .1 .0) (a .1 .1 .1 .0) 𝓣 known (are .0 .1) (are .1 .0) few (are .1 .1 .1 .0 .0 .1)))
 
   meets : Meets 𝓤 H A find-lent.signature (WpFn 𝓤 H (𝓣 .C) (𝓣 .Λ) code.function) (find-lent.spec 𝓤 H A memory run)
@@ -279,8 +281,8 @@ module _ {M : Type 1} (𝓤 : URA M) (H : Heap 𝓤) (A : Atoms 𝓤) (W : Given
       walk-meets 𝓤 H A find-lent.ended stayed W (
         goes-dropped 𝓤 H A W 1 (plain (λ _. usize)) yes (λ κs x f. refl),
         (
-          goes-dropped 𝓤 H A W 1 (ArrayOf (plain (λ _. T.the-row)) (λ _. tt) 200) yes (λ κs x f. refl),
-          (goes-dropped 𝓤 H A W 1 (plain (λ _. usize)) yes (λ κs x f. refl), (goes-gave-slice 𝓤 H A W 1 0 tt (plain (λ _. u8)), tt)),
+          goes-dropped 𝓤 H A W 1 (ArrayOf (plain (λ _. T.the-row)) (λ _. tt) maxLent) yes (λ κs x f. refl),
+          (goes-dropped 𝓤 H A W 1 (plain (λ _. usize)) yes (λ κs x f. refl), (goes-gave-slice 𝓤 H A W 1 0 tt (plain (λ _. Row)), tt)),
         ),
       )
       (find-lent.clauses 𝓤 H A memory run) (WpFn 𝓤 H (𝓣 .C) (𝓣 .Λ) code.function) (WpFn-mono 𝓤 H (W .laws) 𝓣 code.function) walks

@@ -14,11 +14,11 @@ enum-told c = search needs
 returns : tie.Need-returns
 returns c = let s = c .before .before .before .before in handed-short _ _ (s .pre) _ (c .before .enum-told .given .1) (c .if1 .taken)
 
-slice-aggregate-store-u8 : tie.Need-slice-aggregate-store-u8
-slice-aggregate-store-u8 c = search needs
+slice-aggregate-store-u16 : tie.Need-slice-aggregate-store-u16
+slice-aggregate-store-u16 c = search needs
 
-store-u8-requires : tie.Need-store-u8-requires
-store-u8-requires c κs = let s = c .before .before .before .before .before .before .before in let a = c .before .before .before .before .enum-told .given .1 in (omega (arith, s .pre .few a, s .pre .long), (omega (arith, c .before .before .before .if1 .left), λ v h. omega (arith, s .pre .low a v h)))
+store-u16-requires : tie.Need-store-u16-requires
+store-u16-requires c κs = let s = c .before .before .before .before .before .before .before in let a = c .before .before .before .before .enum-told .given .1 in (omega (arith, s .pre .few a, s .pre .long), (omega (arith, c .before .before .before .if1 .left), λ v h. omega (arith, s .pre .low a v h)))
 
 returns-2 : tie.Need-returns-2
 returns-2 c = let s = c .before .before .before .before in handed-refused _ _ (s .pre) _ (c .before .verdict .given .1)
@@ -27,7 +27,7 @@ same-length : tie.Need-same-length
 same-length c = search needs
 
 returns-3 : tie.Need-returns-3
-returns-3 c = let s = c .before .before .before .before .before .before .before .before .before .before in handed-done _ _ (s .pre) _ (c .before .before .before .before .before .before .before .enum-told .given .1) (c .before .before .before .before .before .before .if1 .left) _ (c .before .before .store-u8 .ensures)
+returns-3 c = let s = c .before .before .before .before .before .before .before .before .before .before in handed-done _ _ (s .pre) _ (c .before .before .before .before .before .before .before .enum-told .given .1) (c .before .before .before .before .before .before .if1 .left) _ (c .before .before .store-u16 .ensures)
 
 pub hand-out-spec : {M : Type 1} → statement M
 hand-out-spec =
@@ -36,8 +36,8 @@ hand-out-spec =
     enum-known-verdict
     enum-told
     returns
-    slice-aggregate-store-u8
-    store-u8-requires
+    slice-aggregate-store-u16
+    store-u16-requires
     returns-2
     same-length
     returns-3)
