@@ -1,5 +1,6 @@
 -- `lists::edges_at` meets its contract: the count is within the limit, so the edges fit the array.
 use mathlib.Core.Path.{refl, sym, ap, _∙_}
+use native.Mathlib.Omega.{arith}
 use Rattle.table.specs.Number.{numberRead}
 use Rattle.table.specs.Table.{edgesWithin}
 use Rattle.table.proofs.NumberLaws.{in-limits}
@@ -21,7 +22,7 @@ enum-known-m : tie.Need-enum-known-m
 enum-known-m c = c .match .keys2
 
 many-edges-requires : tie.Need-many-edges-requires
-many-edges-requires c κs = (c .before .before .before .before .before .pre, in-limits _ _ _ _ _ _ (sym (c .before .before .before .number-in .ensures) ∙ ap numberRead (c .before .m .given .1)) .1)
+many-edges-requires c κs = (c .before .before .before .before .before .pre, omega (arith, in-limits _ _ _ _ _ _ (sym (c .before .before .before .number-in .ensures) ∙ ap numberRead (c .before .m .given .1))))
 
 returns : tie.Need-returns
 unfolding edgesWithin

@@ -1,5 +1,6 @@
 -- `lists::steps_at` meets its contract: the count is within the limit, so the steps fit the array.
 use mathlib.Core.Path.{refl, sym, ap, _∙_}
+use native.Mathlib.Omega.{arith}
 use Rattle.table.specs.Number.{numberRead}
 use Rattle.table.specs.Table.{stepsWithin}
 use Rattle.table.proofs.NumberLaws.{in-limits}
@@ -21,7 +22,7 @@ enum-known-n : tie.Need-enum-known-n
 enum-known-n c = c .match .keys2
 
 many-steps-requires : tie.Need-many-steps-requires
-many-steps-requires c κs = in-limits _ _ _ _ _ _ (sym (c .before .before .before .number-in .ensures) ∙ ap numberRead (c .before .n .given .1)) .1
+many-steps-requires c κs = omega (arith, in-limits _ _ _ _ _ _ (sym (c .before .before .before .number-in .ensures) ∙ ap numberRead (c .before .n .given .1)))
 
 returns : tie.Need-returns
 unfolding stepsWithin
