@@ -6,31 +6,51 @@
 
 #include "yuvatondro.h"
 
-enum { GUARD = 32, FILL = 0xA5, FILL16 = 0xA5A5 };
+/* The ranges of an edge's numbers, for which the header has no names. */
+enum { MAX_GAP = 4, MAX_WEIGHT = 255 };
+
+/* What buffers and guards are filled with, byte by byte: no row or point is FILL16. */
+enum { FILL = 0xA5, FILL16 = 0xA5A5 };
 /* Room for more rows and points than there can be. */
-enum { ROWS = 80, POINTS = 1100 };
+enum { ROWS = YUVATONDRO_MAX_STEPS + 16, POINTS = YUVATONDRO_MAX_POINTS + 76 };
 
 /* Prints what was expected and ends with status 1 if it does not hold. */
 void expect(int holds, const char *what);
 void expect_of(const char *call, int holds, const char *what);
 
-/* The longest stored table has 4,489 bytes, and one spare byte may follow. Of the others none is longer than
- * YUVATONDRO_MAX_SHORTEST. */
-enum { LONGEST = 4489 };
+/* The longest stored table, and a byte that may follow. Of the others none is longer than YUVATONDRO_MAX_SHORTEST. */
 typedef struct {
-  uint8_t byte[LONGEST + 1];
+  uint8_t byte[YUVATONDRO_MAX_STORED + 1];
   size_t len;
 } Table;
 
-/* A table in hexadecimal. */
+/* A table in hexadecimal, with capital letters. The words steps and edges stand for the most that there may be of them, steps+1 and
+ * edges+1 for one more, each in its fewest bytes. */
 Table read_hex(const char *text);
 /* As many steps and edges as there may be, with every number in three bytes or in its fewest. */
 Table write_largest(int in_three);
+/* A number at the end of a table, in three bytes or in its fewest. */
+void put_number(Table *t, unsigned number, int in_three);
+
+/* Must edges, four numbers each as the record form takes them: up to one more than there may be. */
+typedef struct {
+  size_t number[4 * (YUVATONDRO_MAX_EDGES + 1)];
+  size_t count;
+} Edges;
+
+void add_edge(Edges *edges, size_t from, size_t to, size_t gap, size_t weight);
+/* Edges of this gap and weight from each of so many steps to the next. */
+Edges make_chain(size_t steps, size_t gap, size_t weight);
+/* The table of edition 1 with these edges, whose steps are checks of one name. */
+Table write_edges(size_t steps, const Edges *edges);
 
 #define SAMPLE                                                                                 \
   "01 04 02 1E 04 77 61 72 6D 00 04 6C 6F 63 6B 00 05 73 77 65 65 70 01 32 05 6C 65 76 65 6C " \
   "04 00 01 01 01 01 02 02 03 00 03 01 01 03 02 01 05"
-extern const uint8_t sample_rows[4];
+extern const uint16_t sample_rows[4];
+
+/* Whether the first entries of two lists are the same. */
+int same_entries(const uint16_t *a, const uint16_t *b, size_t entries);
 
 /* A table for each refusal of the reader, and for each place of a long form; and what the table is refused by if it is a stored one, 0
  * for nothing. */
@@ -38,7 +58,7 @@ typedef struct {
   const char *table;
   unsigned refusal, stored;
 } Refused;
-enum { REFUSED = 38 };
+enum { REFUSED = 42 };
 extern const Refused refused[REFUSED];
 
 /* Accepted tables with their shortest form, and what the rows call refuses both by. */
@@ -51,13 +71,15 @@ extern const Written written[WRITTEN];
 
 /* Each call with buffers of `room` entries (and `points` of order) between guards, whose content is handed out; what must stay is
  * checked. */
-uint64_t call_rows(const Table *t, size_t room, uint8_t *rows);
-uint64_t call_records(size_t steps, const size_t *records, size_t numbers, size_t room, uint8_t *rows);
-uint64_t call_chart(const Table *t, size_t room, size_t points, uint8_t *rows, uint16_t *order);
+uint64_t call_rows(const Table *t, size_t room, uint16_t *rows);
+uint64_t call_records(size_t steps, const size_t *records, size_t numbers, size_t room, uint16_t *rows);
+uint64_t call_chart(const Table *t, size_t room, size_t points, uint16_t *rows, uint16_t *order);
 uint64_t call_write(const Table *t, size_t room, uint8_t *out);
 uint64_t call_convert(const Table *t, size_t room, uint8_t *out);
 
-/* One of the last two on a table with this shortest form, with buffers of every telling length. */
+/* Whether an answer of one of the last two, and what it left in the buffer, is this table. */
+int wrote(uint64_t answer, const uint8_t *out, const Table *due);
+/* One of them on a table with this shortest form, with buffers of every telling length. */
 typedef uint64_t Writer(const Table *t, size_t room, uint8_t *out);
 void test_writer(const char *call, Writer *writer, const Table *t, const Table *shortest);
 
@@ -66,5 +88,7 @@ void test_chart_call(void);
 void test_soft_edges(void);
 void test_write_call(void);
 void test_convert_call(void);
+void test_counts(void);
+void test_tall_charts(void);
 
 #endif

@@ -29,13 +29,13 @@ enum { STORED = sizeof stored / sizeof *stored };
 
 /* Every other call refuses the table by 2, and none of them, nor this one, what it is converted to. */
 static void test_only_here(const Table *t, const Table *shortest) {
-  uint8_t rows[ROWS], out[LONGEST];
-  uint16_t order[POINTS];
+  uint8_t out[YUVATONDRO_MAX_STORED];
+  uint16_t rows[ROWS], order[POINTS];
   expect(yuvatondro_counts(t->byte, t->len) == 2 && yuvatondro_name(t->byte, t->len, 0) == 2, "stored: counts and name");
-  expect(call_rows(t, 64, rows) == 2 && call_chart(t, 64, 1024, rows, order) == 2, "stored: rows and chart");
-  expect(call_write(t, LONGEST, out) == 2, "stored: write");
+  expect(call_rows(t, ROWS, rows) == 2 && call_chart(t, ROWS, POINTS, rows, order) == 2, "stored: rows and chart");
+  expect(call_write(t, YUVATONDRO_MAX_STORED, out) == 2, "stored: write");
   expect(yuvatondro_refusal(yuvatondro_counts(shortest->byte, shortest->len)) == 0, "converted: counts");
-  expect(call_write(shortest, shortest->len, out) == (uint64_t)shortest->len << 8, "converted: write");
+  expect(wrote(call_write(shortest, shortest->len, out), out, shortest), "converted: write");
   test_writer("converted again", call_convert, shortest, shortest);
 }
 
@@ -57,7 +57,7 @@ static void test_short(void) {
 }
 
 static void test_refused(void) {
-  uint8_t out[LONGEST];
+  uint8_t out[YUVATONDRO_MAX_STORED];
   for (size_t i = 0; i < REFUSED; i++) {
     Table t = read_hex(refused[i].table);
     unsigned due = refused[i].stored;
@@ -68,13 +68,13 @@ static void test_refused(void) {
 }
 
 static void test_longest(void) {
-  uint8_t out[LONGEST];
+  uint8_t out[YUVATONDRO_MAX_STORED];
   Table t = write_largest(1), shortest = write_largest(0);
-  expect(t.len == LONGEST && shortest.len == YUVATONDRO_MAX_SHORTEST, "longest stored: its length and that of its shortest form");
+  expect(t.len == YUVATONDRO_MAX_STORED && shortest.len == YUVATONDRO_MAX_SHORTEST, "longest stored: lengths");
   test_writer("convert", call_convert, &t, &shortest);
   test_only_here(&t, &shortest);
   t.byte[t.len++] = 0;
-  expect(call_convert(&t, 0, out) == 10 && call_convert(&t, LONGEST, out) == 10, "longest stored: a spare byte");
+  expect(call_convert(&t, 0, out) == 10 && call_convert(&t, YUVATONDRO_MAX_STORED, out) == 10, "longest stored: a spare byte");
 }
 
 void test_convert_call(void) {

@@ -1,36 +1,44 @@
 /* Buffers between guards. */
 #include "calls.h"
 
+/* Bytes, or entries of 16 bits; no call is lent more than the longest stored table and a byte would take. */
+enum { GUARD = 64, MEMORY = GUARD + YUVATONDRO_MAX_STORED + 1 + GUARD };
 typedef struct {
-  size_t room;
-  uint8_t byte[GUARD + LONGEST + GUARD];
+  size_t bytes;
+  uint16_t memory[(MEMORY + 1) / 2];
 } Lent;
 
-static uint8_t *lend(Lent *lent, size_t room) {
-  lent->room = room;
-  memset(lent->byte, FILL, sizeof lent->byte);
-  return lent->byte + GUARD;
+static void *lend(Lent *lent, size_t bytes) {
+  lent->bytes = bytes;
+  memset(lent->memory, FILL, sizeof lent->memory);
+  return lent->memory + GUARD / 2;
+}
+
+static int is_filled(const uint8_t *start, size_t bytes) {
+  while (bytes > 0 && start[bytes - 1] == FILL) bytes--;
+  return bytes == 0;
 }
 
 /* Hands out what the call left in the buffer; what must stay is checked. */
-static void take_back(const Lent *lent, const char *call, uint64_t answer, uint8_t *content) {
-  const uint8_t *start = lent->byte + GUARD;
-  for (size_t i = 0; i < GUARD; i++) expect_of(call, lent->byte[i] == FILL && start[lent->room + i] == FILL, "a guard byte changed");
-  if (yuvatondro_refusal(answer) != 0)
-    for (size_t i = 0; i < lent->room; i++) expect_of(call, start[i] == FILL, "a refused call changed the buffer");
-  memcpy(content, start, lent->room);
+static void take_back(const Lent *lent, const char *call, uint64_t answer, void *content) {
+  const uint8_t *before = (const uint8_t *)lent->memory, *start = before + GUARD;
+  expect_of(call, is_filled(before, GUARD) && is_filled(start + lent->bytes, GUARD), "a guard byte changed");
+  if (yuvatondro_refusal(answer) != YUVATONDRO_DONE) expect_of(call, is_filled(start, lent->bytes), "a refused call changed a buffer");
+  memcpy(content, start, lent->bytes);
 }
 
-uint64_t call_rows(const Table *t, size_t room, uint8_t *rows) {
+int same_entries(const uint16_t *a, const uint16_t *b, size_t entries) { return memcmp(a, b, entries * sizeof *a) == 0; }
+
+uint64_t call_rows(const Table *t, size_t room, uint16_t *rows) {
   Lent lent;
-  uint64_t answer = yuvatondro_rows(t->byte, t->len, lend(&lent, room), room);
+  uint64_t answer = yuvatondro_rows(t->byte, t->len, lend(&lent, room * sizeof *rows), room);
   take_back(&lent, "rows", answer, rows);
   return answer;
 }
 
-uint64_t call_records(size_t steps, const size_t *records, size_t numbers, size_t room, uint8_t *rows) {
+uint64_t call_records(size_t steps, const size_t *records, size_t numbers, size_t room, uint16_t *rows) {
   Lent lent;
-  uint64_t answer = yuvatondro_records(steps, records, numbers, lend(&lent, room), room);
+  uint64_t answer = yuvatondro_records(steps, records, numbers, lend(&lent, room * sizeof *rows), room);
   take_back(&lent, "records", answer, rows);
   return answer;
 }
@@ -49,16 +57,11 @@ uint64_t call_convert(const Table *t, size_t room, uint8_t *out) {
   return answer;
 }
 
-uint64_t call_chart(const Table *t, size_t room, size_t points, uint8_t *rows, uint16_t *order) {
-  Lent lent;
-  uint16_t order_buffer[GUARD + POINTS + GUARD];
-  memset(order_buffer, FILL, sizeof order_buffer);
-  uint64_t answer = yuvatondro_chart(t->byte, t->len, lend(&lent, room), room, order_buffer + GUARD, points);
-  take_back(&lent, "chart", answer, rows);
-  for (size_t i = 0; i < GUARD; i++)
-    expect(order_buffer[i] == FILL16 && order_buffer[GUARD + points + i] == FILL16, "chart: a guard entry changed");
-  if (yuvatondro_refusal(answer) != 0)
-    for (size_t i = 0; i < points; i++) expect(order_buffer[GUARD + i] == FILL16, "chart: a refused call changed the order");
-  memcpy(order, order_buffer + GUARD, points * sizeof *order);
+uint64_t call_chart(const Table *t, size_t room, size_t points, uint16_t *rows, uint16_t *order) {
+  Lent for_rows, for_order;
+  uint16_t *lent_rows = lend(&for_rows, room * sizeof *rows), *lent_order = lend(&for_order, points * sizeof *order);
+  uint64_t answer = yuvatondro_chart(t->byte, t->len, lent_rows, room, lent_order, points);
+  take_back(&for_rows, "chart, rows", answer, rows);
+  take_back(&for_order, "chart, order", answer, order);
   return answer;
 }

@@ -4,9 +4,8 @@
 /* Level and flat, which upset each other, below lock: of the soft edges between them the second is turned, and its gap puts three rows
  * between. */
 static void test_soft(void) {
-  uint8_t rows[ROWS];
-  uint16_t order[POINTS];
-  static const uint8_t soft_rows[3] = {1, 4, 0};
+  uint16_t rows[ROWS], order[POINTS];
+  static const uint16_t soft_rows[3] = {1, 4, 0};
   /* lock; level; the first dummies of edges 1 and 2; their second ones; flat */
   static const uint16_t soft_order[7] = {2, 0, 3, 5, 4, 6, 1};
   Table t = read_hex(
@@ -18,12 +17,12 @@ static void test_soft(void) {
   expect(yuvatondro_refusal(answer) == 0 && yuvatondro_name_length(answer) == 4, "soft: length of a name");
   expect(memcmp(t.byte + yuvatondro_name_start(answer), "flat", 4) == 0, "soft: bytes of a name");
   expect(yuvatondro_name(t.byte, t.len, 3) == 14, "soft: the name of a step that is not there");
-  expect(call_rows(&t, 4, rows) == 0 && memcmp(rows, soft_rows, 3) == 0 && rows[3] == FILL, "soft: rows");
+  expect(call_rows(&t, 4, rows) == 0 && same_entries(rows, soft_rows, 3) && rows[3] == FILL16, "soft: rows");
   expect(call_rows(&t, 2, rows) == 13, "soft: a buffer one short");
   answer = call_chart(&t, 3, 8, rows, order);
   expect(yuvatondro_refusal(answer) == 0 && yuvatondro_points(answer) == 7, "soft: points");
   expect(yuvatondro_total(answer) == 10 && yuvatondro_crossings(answer) == 0, "soft: total and crossings");
-  expect(memcmp(rows, soft_rows, 3) == 0 && memcmp(order, soft_order, sizeof soft_order) == 0, "soft: rows and order of the chart");
+  expect(same_entries(rows, soft_rows, 3) && same_entries(order, soft_order, 7), "soft: rows and order of the chart");
   expect(order[7] == FILL16, "soft: an entry behind the last point");
   expect(call_chart(&t, 3, 6, rows, order) == 13, "soft: order one short");
   /* steps 1 and 2 on a loop of must edges, step 0 on one with a soft edge */
@@ -36,20 +35,21 @@ static void test_soft(void) {
   expect(yuvatondro_name(t.byte, t.len, 2) == 15, "soft: a bad firmness before a step that is not there");
 }
 
+/* Each edge has the largest gap as it was turned, or lies beside one that has, so that all are as long. */
 static void test_longest(void) {
-  uint8_t rows[ROWS];
-  uint16_t order[POINTS];
+  enum { STEPS = YUVATONDRO_MAX_STEPS, EDGES = YUVATONDRO_MAX_EDGES, ALL = STEPS + EDGES * (MAX_GAP - 1) };
+  uint16_t rows[ROWS], order[POINTS];
   Table t = write_largest(0);
   expect(t.len == YUVATONDRO_MAX_SHORTEST, "longest: its length");
   uint64_t answer = yuvatondro_counts(t.byte, t.len);
-  expect(yuvatondro_refusal(answer) == 0 && yuvatondro_steps(answer) == 64 && yuvatondro_edges(answer) == 192, "longest: counts");
-  answer = yuvatondro_name(t.byte, t.len, 63);
-  expect(yuvatondro_name_length(answer) == 16 && yuvatondro_name_start(answer) == 2 + 63 * 20 + 4, "longest: the last name");
-  answer = call_chart(&t, 64, 640, rows, order);
-  expect(yuvatondro_refusal(answer) == 0 && yuvatondro_points(answer) == 640, "longest: 64 steps and 192 times 3 dummies");
-  expect(yuvatondro_total(answer) == 192 * 255 * 4 && yuvatondro_crossings(answer) == 0, "longest: total and crossings");
-  for (unsigned i = 0; i < 64; i++) expect(rows[i] == 4 * i, "longest: a row of the chart");
-  expect(call_rows(&t, 64, rows) == 0 && rows[63] == 252, "longest: rows");
+  expect(yuvatondro_refusal(answer) == 0 && yuvatondro_steps(answer) == STEPS && yuvatondro_edges(answer) == EDGES, "longest: counts");
+  answer = yuvatondro_name(t.byte, t.len, STEPS - 1);
+  expect(yuvatondro_name_length(answer) == 16 && yuvatondro_name_start(answer) == 2 + (STEPS - 1) * 20 + 4, "longest: the last name");
+  answer = call_chart(&t, STEPS, ALL, rows, order);
+  expect(yuvatondro_refusal(answer) == 0 && yuvatondro_points(answer) == ALL, "longest: points");
+  expect(yuvatondro_total(answer) == EDGES * MAX_WEIGHT * MAX_GAP && yuvatondro_crossings(answer) == 0, "longest: total and crossings");
+  for (unsigned i = 0; i < STEPS; i++) expect(rows[i] == MAX_GAP * i, "longest: a row of the chart");
+  expect(call_rows(&t, STEPS, rows) == 0 && rows[STEPS - 1] == YUVATONDRO_MAX_ROW, "longest: rows");
   t.byte[t.len++] = 0;
   expect(yuvatondro_counts(t.byte, t.len) == 10 && yuvatondro_name(t.byte, t.len, 0) == 10, "longest: a spare byte in counts and name");
   expect(call_rows(&t, 0, rows) == 10 && call_chart(&t, 0, 0, rows, order) == 10, "longest: a spare byte in rows and chart");

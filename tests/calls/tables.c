@@ -3,18 +3,31 @@
 
 #include "calls.h"
 
+/* A limit that the text names, at the end of the table. Gives what follows it in the text. */
+static const char *read_limit(Table *t, const char *text) {
+  unsigned limit = strncmp(text, "steps", 5) == 0 ? YUVATONDRO_MAX_STEPS : YUVATONDRO_MAX_EDGES;
+  unsigned more = strncmp(text + 5, "+1", 2) == 0;
+  put_number(t, limit + more, 0);
+  return text + 5 + 2 * more;
+}
+
 Table read_hex(const char *text) {
   Table t = {{0}, 0};
-  unsigned b;
-  int used;
-  while (sscanf(text, " %2x%n", &b, &used) == 1) {
-    t.byte[t.len++] = (uint8_t)b;
-    text += used;
+  for (; *text; text += strspn(text, " ")) {
+    if (*text == 's' || *text == 'e') {
+      text = read_limit(&t, text);
+    } else {
+      unsigned byte;
+      int used;
+      expect(sscanf(text, "%2x%n", &byte, &used) == 1, "a table of the test is in hexadecimal");
+      t.byte[t.len++] = (uint8_t)byte;
+      text += used;
+    }
   }
   return t;
 }
 
-const uint8_t sample_rows[4] = {0, 1, 3, 2};
+const uint16_t sample_rows[4] = {0, 1, 3, 2};
 
 /* Two checks and one edge, whose numbers follow. */
 #define EDGE1 "01 02 00 01 41 00 01 42 01 "
@@ -24,11 +37,16 @@ const Refused refused[REFUSED] = {
     {"", 1, 1},
     {"80 80 80", 2, 2},
     {"03", 3, 3},
-    {"01 41", 4, 4},
+    {"01 steps+1", 4, 4},
+    {"01 steps", 1, 1},
+    /* one step and one edge more than there might be up to version 1.3 */
+    {"01 41", 1, 1},
+    {"01 00 C1 01", 1, 1},
     {"01 01 03", 5, 5},
     {"01 01 02 00", 6, 6},
     {"01 01 00 01 20", 7, 7},
-    {"01 00 C1 01", 8, 8},
+    {"01 00 edges+1", 8, 8},
+    {"01 00 edges", 1, 1},
     {"01 01 00 01 41 01 00 00", 9, 9},
     {"01 00 00 00", 10, 10},
     {"00", 3, 3},
@@ -59,9 +77,9 @@ const Refused refused[REFUSED] = {
     /* and one that would not, or before another fault */
     {"80 00", 2, 3},
     {"83 80 00", 2, 3},
-    {"01 C1 00", 2, 4},
+    {"01 FF 00", 2, 4},
     {EDGE2 "00 01 01 01 82 80 00", 2, 15},
-    {"81 00 41", 2, 4},
+    {"81 00 steps+1", 2, 4},
 };
 
 const Written written[WRITTEN] = {
@@ -86,8 +104,7 @@ const Written written[WRITTEN] = {
      "02 03 00 01 41 00 01 42 00 01 43 03 00 01 01 01 01 01 02 01 01 00 02 01 01 01 00", 11},
 };
 
-/* A number in three bytes or in its fewest. */
-static void put(Table *t, unsigned number, int in_three) {
+void put_number(Table *t, unsigned number, int in_three) {
   for (int width = 1; in_three ? width < 3 : number >= 0x80; width++) {
     t->byte[t->len++] = (uint8_t)(number | 0x80);
     number >>= 7;
@@ -95,22 +112,45 @@ static void put(Table *t, unsigned number, int in_three) {
   t->byte[t->len++] = (uint8_t)number;
 }
 
-/* A chain of 64 steps with gap 4, and 129 soft edges back along it, so that each is turned. */
+/* A chain of steps with gap 1, and for the rest soft edges back along it with the largest gap: each of these is turned, and each link of
+ * the chain has some, so that they decide the rows. */
 Table write_largest(int in_three) {
+  enum { CHAIN = YUVATONDRO_MAX_STEPS - 1, TOLERANCE = 9999, NAME = 16 };
   Table t = {{0}, 0};
-  put(&t, 2, in_three);
-  put(&t, 64, in_three);
-  for (unsigned i = 0; i < 64; i++) {
-    put(&t, 1, in_three);
-    put(&t, 9999, in_three);
-    put(&t, 16, in_three);
-    for (unsigned k = 0; k < 16; k++) t.byte[t.len++] = (uint8_t)('a' + k);
+  put_number(&t, 2, in_three);
+  put_number(&t, YUVATONDRO_MAX_STEPS, in_three);
+  for (unsigned i = 0; i < YUVATONDRO_MAX_STEPS; i++) {
+    put_number(&t, 1, in_three);
+    put_number(&t, TOLERANCE, in_three);
+    put_number(&t, NAME, in_three);
+    for (unsigned k = 0; k < NAME; k++) t.byte[t.len++] = (uint8_t)('a' + k);
   }
-  put(&t, 192, in_three);
-  for (unsigned i = 0; i < 192; i++) {
-    unsigned low = i % 63, soft = i >= 63;
-    const unsigned edge[5] = {low + soft, low + 1 - soft, 4, 255, soft};
-    for (unsigned k = 0; k < 5; k++) put(&t, edge[k], in_three);
+  put_number(&t, YUVATONDRO_MAX_EDGES, in_three);
+  for (unsigned i = 0; i < YUVATONDRO_MAX_EDGES; i++) {
+    unsigned low = i % CHAIN, soft = i >= CHAIN;
+    const unsigned edge[5] = {low + soft, low + 1 - soft, soft ? MAX_GAP : 1, MAX_WEIGHT, soft};
+    for (unsigned k = 0; k < 5; k++) put_number(&t, edge[k], in_three);
   }
+  return t;
+}
+
+void add_edge(Edges *edges, size_t from, size_t to, size_t gap, size_t weight) {
+  const size_t numbers[4] = {from, to, gap, weight};
+  memcpy(edges->number + 4 * edges->count++, numbers, sizeof numbers);
+}
+
+Edges make_chain(size_t steps, size_t gap, size_t weight) {
+  Edges edges = {{0}, 0};
+  for (size_t i = 1; i < steps; i++) add_edge(&edges, i - 1, i, gap, weight);
+  return edges;
+}
+
+Table write_edges(size_t steps, const Edges *edges) {
+  static const uint8_t check[3] = {0, 1, 'a'};
+  Table t = {{1}, 1};
+  put_number(&t, (unsigned)steps, 0);
+  for (size_t i = 0; i < steps; i++, t.len += sizeof check) memcpy(t.byte + t.len, check, sizeof check);
+  put_number(&t, (unsigned)edges->count, 0);
+  for (size_t i = 0; i < 4 * edges->count; i++) put_number(&t, (unsigned)edges->number[i], 0);
   return t;
 }
