@@ -1,5 +1,5 @@
-/* Every call for C through its header: each refusal it can give, exact and short buffers, empty ones, and guard bytes round every
- * buffer. Prints a line and ends with status 1 at the first surprise. */
+/* Every call for C through its header: each refusal it can give, the limits on both sides, exact and short buffers, empty ones, and
+ * guard bytes round every buffer. Prints a line and ends with status 1 at the first surprise. */
 #include <stdio.h>
 #include <stdlib.h>
 
@@ -23,6 +23,8 @@ int main(void) {
   test_soft_edges();
   test_write_call();
   test_convert_call();
+  test_counts();
+  test_tall_charts();
   printf("host: %d checks, each as expected\n", checks);
   return 0;
 }
