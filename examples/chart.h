@@ -6,8 +6,8 @@
 
 #include "yuvatondro.h"
 
-/* Gaps of at most 4 over 64 steps lead no further down than row 252. Each edge has a segment more than it has dummies. */
-enum { MAX_ROWS = 253, MAX_SEGMENTS = YUVATONDRO_MAX_POINTS + YUVATONDRO_MAX_EDGES };
+/* Rows count from 0. Each edge has a segment more than it has dummies. */
+enum { MAX_ROWS = YUVATONDRO_MAX_ROW + 1, MAX_SEGMENTS = YUVATONDRO_MAX_POINTS + YUVATONDRO_MAX_EDGES };
 
 /* As the table has it: the ends of a turned edge are not exchanged here. */
 typedef struct {
@@ -36,9 +36,10 @@ typedef struct {
   size_t shortest_len;
 
   /* known from ROWS on */
-  uint8_t row[YUVATONDRO_MAX_STEPS];
+  uint16_t row[YUVATONDRO_MAX_STEPS];
 
-  /* known with ORDER; the points of row r are order[row_start[r]] to order[row_start[r + 1] - 1] */
+  /* known with ORDER; the points of row r are order[row_start[r]] to order[row_start[r + 1] - 1], and the segments from row r to the next
+   * are those numbered below[below_start[r]] to below[below_start[r + 1] - 1] */
   unsigned points, rows, segments;
   unsigned long total, crossings;
   uint16_t order[YUVATONDRO_MAX_POINTS];
@@ -47,6 +48,7 @@ typedef struct {
   unsigned point_place[YUVATONDRO_MAX_POINTS]; /* from the left, from 0 */
   unsigned point_edge[YUVATONDRO_MAX_POINTS];  /* of a dummy */
   Segment segment[MAX_SEGMENTS];
+  unsigned below[MAX_SEGMENTS], below_start[MAX_ROWS + 1];
 } Chart;
 
 /* stored.c: whether the library takes the table only by the rule of tables stored before long forms of numbers were refused. Then its

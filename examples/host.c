@@ -13,7 +13,7 @@
 
 #include "chart.h"
 
-/* No table is longer than 4,489 bytes, stored ones included, and a longer file is refused for the same reason as its first 8,192 bytes. */
+/* More than YUVATONDRO_MAX_STORED, so that no table is cut; a longer file is refused for the same reason as its first 8,192 bytes. */
 enum { ROOM = 8192, REFUSED = 1, TROUBLE = 2 };
 
 static int report(const char *path) {

@@ -53,11 +53,16 @@ static void find_lanes(const Chart *chart, const long *x, long *lane) {
 
 /* The places of the ends of a row's segments, as wishes. */
 static void wish_for_ends(const Chart *chart, unsigned row, Sides sides, const long *x, Wishes *w) {
-  for (unsigned i = 0; i < chart->segments; i++) {
-    const Segment *s = &chart->segment[i];
-    if (sides != FROM_BELOW && chart->point_row[s->lower] == row) wish(w, s->lower, 1, x[s->upper]);
-    if (sides != FROM_ABOVE && chart->point_row[s->upper] == row) wish(w, s->upper, 1, x[s->lower]);
-  }
+  if (sides != FROM_BELOW && row > 0)
+    for (unsigned i = chart->below_start[row - 1]; i < chart->below_start[row]; i++) {
+      const Segment *s = &chart->segment[chart->below[i]];
+      wish(w, s->lower, 1, x[s->upper]);
+    }
+  if (sides != FROM_ABOVE)
+    for (unsigned i = chart->below_start[row]; i < chart->below_start[row + 1]; i++) {
+      const Segment *s = &chart->segment[chart->below[i]];
+      wish(w, s->upper, 1, x[s->lower]);
+    }
 }
 
 static void forget(Wishes *w, unsigned point) { w->sum[point] = w->weight[point] = 0; }

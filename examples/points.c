@@ -7,7 +7,7 @@
  * or turned, and counts as many points. */
 static int edges_agree(const Chart *chart) {
   size_t record[4 * YUVATONDRO_MAX_EDGES];
-  uint8_t row[YUVATONDRO_MAX_STEPS];
+  uint16_t row[YUVATONDRO_MAX_STEPS];
   unsigned long points = chart->steps;
   for (unsigned i = 0; i < chart->edges; i++) {
     const Edge *e = &chart->edge[i];
@@ -16,7 +16,7 @@ static int edges_agree(const Chart *chart) {
     memcpy(record + 4 * i, numbers, sizeof numbers);
   }
   uint64_t answer = yuvatondro_records(chart->steps, record, 4 * chart->edges, row, YUVATONDRO_MAX_STEPS);
-  if (answer != YUVATONDRO_DONE || memcmp(row, chart->row, chart->steps) != 0) return 0;
+  if (answer != YUVATONDRO_DONE || memcmp(row, chart->row, chart->steps * sizeof *row) != 0) return 0;
   for (unsigned i = 0; i < chart->edges; i++) points += (unsigned long)(row[lower_end(chart, i)] - row[upper_end(chart, i)] - 1);
   return points == chart->points;
 }
@@ -49,6 +49,15 @@ static void cut_rows(Chart *chart) {
   chart->row_start[chart->rows] = chart->points;
 }
 
+/* Lists the segments by their upper row: counts those of each row, which tells where the rows behind it start, and fills each list from
+ * its end. */
+static void list_segments(Chart *chart) {
+  memset(chart->below_start, 0, sizeof chart->below_start);
+  for (unsigned i = 0; i < chart->segments; i++) chart->below_start[chart->point_row[chart->segment[i].upper]]++;
+  for (unsigned row = 0; row < chart->rows; row++) chart->below_start[row + 1] += chart->below_start[row];
+  for (unsigned i = chart->segments; i-- > 0;) chart->below[--chart->below_start[chart->point_row[chart->segment[i].upper]]] = i;
+}
+
 int place_points(Chart *chart) {
   if (!edges_agree(chart)) return 0;
   chart->segments = 0;
@@ -56,5 +65,6 @@ int place_points(Chart *chart) {
   unsigned point = chart->steps;
   for (unsigned i = 0; i < chart->edges; i++) point = lay_edge(chart, i, point);
   cut_rows(chart);
+  list_segments(chart);
   return 1;
 }
