@@ -5,6 +5,12 @@ A table is a list of steps (name, kind, number) and a list of edges (from, to, g
 
 from collections import Counter
 
+# The limits, and those of version 1.3: named here for the test, so that the tool is not held to its own.
+MOST_STEPS, MOST_EDGES = 96, 288
+OLD_STEPS, OLD_EDGES = 64, 192
+# The bytes of the longest table: its edition and its counts; its steps with names of 16; its edges, each with a firmness.
+LONGEST = 1 + 1 + MOST_STEPS * (1 + 2 + 1 + 16) + 2 + MOST_EDGES * (1 + 1 + 1 + 2 + 1)
+
 
 def number(value, longer=0):
     """Seven bits a byte, lowest first, in up to `longer` more bytes than needed."""
@@ -60,8 +66,8 @@ def random_step(rng):
 
 
 def random_table(rng):
-    steps = [random_step(rng) for _ in range(rng.choice([0, 1, 2, 3, 10, 63, 64]))]
-    count = rng.choice([0, 1, 5, 127, 128, 192]) if len(steps) > 1 else 0
+    steps = [random_step(rng) for _ in range(rng.choice([0, 1, 2, 3, 10, OLD_STEPS, OLD_STEPS + 1, MOST_STEPS]))]
+    count = rng.choice([0, 1, 5, 127, 128, OLD_EDGES + 1, MOST_EDGES]) if len(steps) > 1 else 0
     ends = [rng.sample(range(len(steps)), 2) for _ in range(count)]
     softness = rng.choice([0, 0, 0.02, 0.5, 1])
     return steps, [(*pair, rng.randint(1, 4), rng.choice([0, 1, 127, 128, 255]), int(rng.random() < softness)) for pair in ends]

@@ -3,8 +3,8 @@
 from collections import namedtuple
 
 EDITIONS = range(1, 3)
-MOST_STEPS = 64
-MOST_EDGES = 192
+MOST_STEPS = 96
+MOST_EDGES = 288
 NAME_LENGTH = range(1, 17)
 NAME_BYTE = range(0x21, 0x7F)
 GAP = range(1, 5)
