@@ -1,4 +1,4 @@
-# shellcheck shell=sh disable=SC2154
+# shellcheck shell=sh disable=SC2034,SC2154
 # What the tests on stored tables share. A test sets `test` to its name and `work` to a folder of its own before it takes this in.
 
 # write_bytes BYTE...: the bytes, each in hexadecimal
@@ -14,35 +14,57 @@ trickle() {
     done
 }
 
+# The files of tables with what chart prints for each.
+charts='tests/chart.txt tests/soft.txt tests/forms.txt'
 # The tables of stored lines, and what stands behind them.
 tables() { sed -e '/^#/d' -e '/^$/d' -e 's/ -> .*//' "$@"; }
 results() { sed -e '/^#/d' -e '/^$/d' -e 's/.* -> //' "$@"; }
 
+# The limits of a table, and those of version 1.3: stored tables within these must read as before.
+max_steps=96
+max_edges=288
+old_steps=64
+old_edges=192
+# The bytes of the longest table, and of the same with each number in three bytes. Names have 16.
+max_shortest=$((1 + 1 + max_steps * (1 + 2 + 1 + 16) + 2 + max_edges * (1 + 1 + 1 + 2 + 1)))
+max_stored=$((3 + 3 + max_steps * (3 * 3 + 16) + 3 + max_edges * (5 * 3)))
+
+# short NUMBER, long NUMBER: a number below 16,384 in its fewest bytes, and in three
+short() {
+    if [ "$1" -lt 128 ]; then printf %02X "$1"; else printf '%02X %02X' $(($1 % 128 + 128)) $(($1 / 128)); fi
+}
+long() { printf '%02X %02X 00' $(($1 % 128 + 128)) $(($1 / 128 + 128)); }
 # repeat NUMBER BYTES: the bytes so many times, a blank before each
 repeat() {
     awk -v left="$1" -v bytes="$2" 'BEGIN { for (; left > 0; left--) printf " %s", bytes }'
 }
-# make_edges NUMBER GIVEN SHORTEST: two steps and that many must edges in edition 2; the number in a form that is given, and in its shortest
+# make_edges FORM NUMBER: two steps and that many must edges in edition 2, their number in a form that is `short` or `long`
 make_edges() {
     steps='02 00 01 41 00 01 42'
-    echo "02 $steps $2$(repeat "$1" '00 01 01 01 00') -> writes 01 $steps $3$(repeat "$1" '00 01 01 01')"
+    echo "02 $steps $("$1" "$2")$(repeat "$2" '00 01 01 01 00') -> writes 01 $steps $(short "$2")$(repeat "$2" '00 01 01 01')"
 }
-# The longest table, of 2,436 bytes, and the same with each number in three, 4,489 bytes.
+# make_longest STEPS EDGES, make_longest_forms STEPS EDGES: the longest table of so many, and the same with each number in three bytes
 name='41 42 43 44 45 46 47 48 49 4A 4B 4C 4D 4E 4F 50'
-make_longest() { echo "02 40$(repeat 64 "01 8F 4E 10 $name") C0 01$(repeat 192 '00 3F 04 FF 01 01')"; }
+make_longest() {
+    echo "02 $(short "$1")$(repeat "$1" "01 8F 4E 10 $name") $(short "$2")$(repeat "$2" "00 $(short $(($1 - 1))) 04 FF 01 01")"
+}
 make_longest_forms() {
-    printf '82 80 00 C0 80 00%s' "$(repeat 64 "81 80 00 8F CE 00 90 80 00 $name")"
-    echo " C0 81 00$(repeat 192 '80 80 00 BF 80 00 84 80 00 FF 81 00 81 80 00')"
+    printf '82 80 00 %s%s' "$(long "$1")" "$(repeat "$1" "81 80 00 8F CE 00 90 80 00 $name")"
+    echo " $(long "$2")$(repeat "$2" "80 80 00 $(long $(($1 - 1))) 84 80 00 FF 81 00 81 80 00")"
+}
+# number_of FILE NUMBER: ends the test where the file has another number of bytes
+number_of() {
+    [ "$(wc -c <"$1")" -eq "$2" ] || { echo "$test: a table of $(wc -c <"$1") bytes that should have $2"; exit 1; }
 }
 
 # same WHAT FILE FILE: ends the test where the files differ
 same() {
     diff "$2" "$3" >"$work/difference" || { echo "$test: $1"; cut -c 1-200 "$work/difference"; exit 1; }
 }
-# store FILE: the tables of the file, for the functions below
+# store FILE...: the tables of the files, for the functions below
 store() {
-    tables "$1" >"$work/tables"
-    results "$1" >"$work/results"
+    tables "$@" >"$work/tables"
+    results "$@" >"$work/results"
 }
 # as_stored WHO COMMAND...: what the command gives for the stored tables is what stands behind them
 as_stored() {
@@ -52,9 +74,12 @@ as_stored() {
     same "$who (>) does not give what is stored (<)" "$work/results" "$work/given"
     echo "$test: $(wc -l <"$work/tables") tables, each written or refused by $who as expected"
 }
-# build_library: makes $work/library, which gives what a call of the library makes of the tables on its standard input
+# build_library: makes $work/library, which gives what a call of the library makes of the tables on its standard input. Its header has the
+# limits named above.
 build_library() {
     cc -std=c99 -O1 -g -Wall -Wextra -pedantic -Werror -Iinclude tests/writing.c target/staticlib/libhost.a -o "$work/library"
+    [ "$("$work/library" limits)" = "$max_steps $max_edges $max_shortest $max_stored" ] ||
+        { echo "$test: the header has other limits than tests/stored.sh: $("$work/library" limits)"; exit 1; }
 }
 # its_own CALL: what the call wrote of the tables of $work/all, in $work/library.given, it makes again of itself
 its_own() {
