@@ -15,7 +15,7 @@ trickle() {
 }
 
 # The files of tables with what chart prints for each.
-charts='tests/chart.txt tests/soft.txt tests/forms.txt'
+charts='tests/chart.txt tests/soft.txt tests/forms.txt tests/bigger.txt'
 # The tables of stored lines, and what stands behind them.
 tables() { sed -e '/^#/d' -e '/^$/d' -e 's/ -> .*//' "$@"; }
 results() { sed -e '/^#/d' -e '/^$/d' -e 's/.* -> //' "$@"; }
