@@ -66,8 +66,8 @@ def random_step(rng):
 
 
 def random_table(rng):
-    steps = [random_step(rng) for _ in range(rng.choice([0, 1, 2, 3, 10, OLD_STEPS, OLD_STEPS + 1, MOST_STEPS]))]
-    count = rng.choice([0, 1, 5, 127, 128, OLD_EDGES + 1, MOST_EDGES]) if len(steps) > 1 else 0
+    steps = [random_step(rng) for _ in range(rng.choice([0, 1, 2, 3, 10, OLD_STEPS + 1, MOST_STEPS]))]
+    count = rng.choice([0, 1, 5, 127, 128, MOST_EDGES]) if len(steps) > 1 else 0
     ends = [rng.sample(range(len(steps)), 2) for _ in range(count)]
     softness = rng.choice([0, 0, 0.02, 0.5, 1])
     return steps, [(*pair, rng.randint(1, 4), rng.choice([0, 1, 127, 128, 255]), int(rng.random() < softness)) for pair in ends]
