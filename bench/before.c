@@ -9,18 +9,18 @@
 
 enum { SEEDS = 2, SIZES = 4, SMALLEST = 8, EDGES_A_NODE = 3 };
 
-unsigned before_call_rows(const uint8_t *table, size_t length, uint8_t *rows, size_t nodes);
+unsigned before_call_rows(const uint8_t *table, size_t length, uint16_t *rows, size_t nodes);
 void before_call_chart(const uint8_t *table, size_t length, ChartAnswer *answer);
-unsigned now_call_rows(const uint8_t *table, size_t length, uint8_t *rows, size_t nodes);
+unsigned now_call_rows(const uint8_t *table, size_t length, uint16_t *rows, size_t nodes);
 void now_call_chart(const uint8_t *table, size_t length, ChartAnswer *answer);
 size_t now_write_table(const Instance *inst, uint8_t *table);
 void now_cut_to_accepted(Instance *inst);
 
 static void rows_before(const uint8_t *table, size_t length, ChartAnswer *answer) {
-  answer->refusal = before_call_rows(table, length, answer->rows, MAX_NODES);
+  answer->refusal = before_call_rows(table, length, answer->rows, YUVATONDRO_MAX_STEPS);
 }
 static void rows_now(const uint8_t *table, size_t length, ChartAnswer *answer) {
-  answer->refusal = now_call_rows(table, length, answer->rows, MAX_NODES);
+  answer->refusal = now_call_rows(table, length, answer->rows, YUVATONDRO_MAX_STEPS);
 }
 
 static Pairs rows[SIZES], charts[SIZES], searched;

@@ -45,9 +45,9 @@ static void check_case(const Case *c) {
 }
 // Pushes and raises, from the model, whose rows must be ours.
 static void count_work(Case *c) {
-  uint8_t rows[MAX_NODES];
+  uint16_t rows[YUVATONDRO_MAX_STEPS];
   c->work = solve_by_model(c->table, rows);
-  if (memcmp(rows, c->rows, c->inst.nodes) != 0) stop(c, "the model has other rows");
+  if (memcmp(rows, c->rows, c->inst.nodes * sizeof *rows) != 0) stop(c, "the model has other rows");
 }
 // Each program once; which goes first changes from round to round. Rows are wiped, so that each call must write them.
 static void run_case(Case *c, int round) {

@@ -3,7 +3,7 @@
 #include "yuvatondro.h"
 
 void call_chart(const uint8_t *table, size_t length, ChartAnswer *a) {
-  uint64_t answer = yuvatondro_chart(table, length, a->rows, MAX_NODES, a->order, MAX_POINTS);
+  uint64_t answer = yuvatondro_chart(table, length, a->rows, YUVATONDRO_MAX_STEPS, a->order, YUVATONDRO_MAX_POINTS);
   a->refusal = yuvatondro_refusal(answer);
   a->points = yuvatondro_points(answer);
   a->total = yuvatondro_total(answer);
@@ -11,7 +11,7 @@ void call_chart(const uint8_t *table, size_t length, ChartAnswer *a) {
 }
 
 void cut_to_accepted(Instance *g) {
-  static uint8_t table[MAX_TABLE];
+  static uint8_t table[YUVATONDRO_MAX_STORED];
   static ChartAnswer answer;
   for (;; g->edges--) {
     call_chart(table, write_table(g, table), &answer);
@@ -25,7 +25,7 @@ static long find_rows(const Instance *g, const ChartAnswer *a, int *row) {
   for (size_t v = 0; v < g->nodes; v++) row[v] = a->rows[v];
   for (size_t i = 0; i < g->edges; i++)
     for (int r = a->rows[g->edge[i].from] + 1; r < a->rows[g->edge[i].to]; r++) {
-      if (points == MAX_POINTS) return -1;
+      if (points == YUVATONDRO_MAX_POINTS) return -1;
       row[points++] = r;
     }
   return points;
@@ -44,7 +44,7 @@ static int find_positions(const ChartAnswer *a, long points, const int *row, int
   return 1;
 }
 int read_chart(const Instance *g, const ChartAnswer *a, Drawing *d) {
-  int row[MAX_POINTS], position[MAX_POINTS];
+  int row[YUVATONDRO_MAX_POINTS], position[YUVATONDRO_MAX_POINTS];
   long points = find_rows(g, a, row);
   if (points < 0 || !find_positions(a, points, row, position)) return 0;
   long dummy = g->nodes;

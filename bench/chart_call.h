@@ -8,8 +8,7 @@ enum { REFUSED_MANY_POINTS = 12 };
 typedef struct {
   unsigned refusal;
   long points, total, crossings;
-  uint8_t rows[MAX_NODES];
-  uint16_t order[MAX_POINTS];
+  uint16_t rows[YUVATONDRO_MAX_STEPS], order[YUVATONDRO_MAX_POINTS];
 } ChartAnswer;
 
 // The whole chart of a table.

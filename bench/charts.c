@@ -16,7 +16,7 @@ enum { ROUNDS = 5, SEEDS = 2, SIZES = 4, SMALLEST = 8, EDGES_A_NODE = 3, MAX_CAS
 
 typedef struct {
   Instance inst;
-  uint8_t table[MAX_TABLE];
+  uint8_t table[YUVATONDRO_MAX_STORED];
   size_t length;
   ChartAnswer answer;
   long dot_crossings, dot_total;

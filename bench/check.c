@@ -2,19 +2,19 @@
 // tight on the edges with flow, so the lowest are the fixpoint of relaxation from 0 over the edges and, backward, those with flow.
 #include "check.h"
 
-static long length_of(const Edge *e, const uint8_t *rows) { return (long)rows[e->to] - rows[e->from]; }
+static long length_of(const Edge *e, const uint16_t *rows) { return (long)rows[e->to] - rows[e->from]; }
 
-long total_of(const Instance *g, const uint8_t *rows) {
+long total_of(const Instance *g, const uint16_t *rows) {
   long total = 0;
   for (size_t i = 0; i < g->edges; i++) total += g->edge[i].weight * length_of(&g->edge[i], rows);
   return total;
 }
-int is_feasible(const Instance *g, const uint8_t *rows) {
+int is_feasible(const Instance *g, const uint16_t *rows) {
   for (size_t i = 0; i < g->edges; i++) if (length_of(&g->edge[i], rows) < (long)g->edge[i].gap) return 0;
   return 1;
 }
 static int is_balanced(const Instance *g, const long *flow) {
-  long excess[MAX_NODES] = { 0 };
+  long excess[YUVATONDRO_MAX_STEPS] = { 0 };
   for (size_t i = 0; i < g->edges; i++) {
     long d = flow[i] - (long)g->edge[i].weight;
     if (flow[i] < 0) return 0;
@@ -24,7 +24,7 @@ static int is_balanced(const Instance *g, const long *flow) {
   for (size_t v = 0; v < g->nodes; v++) if (excess[v] != 0) return 0;
   return 1;
 }
-static int is_tight(const Instance *g, const uint8_t *rows, const long *flow) {
+static int is_tight(const Instance *g, const uint16_t *rows, const long *flow) {
   for (size_t i = 0; i < g->edges; i++) if (flow[i] > 0 && length_of(&g->edge[i], rows) != (long)g->edge[i].gap) return 0;
   return 1;
 }
@@ -43,13 +43,13 @@ static int lift_all(const Instance *g, const long *flow, long *low) {
   return lifted;
 }
 // Asked only of feasible rows that are tight where there is flow: they bound the relaxation, so it ends.
-static int is_lowest(const Instance *g, const uint8_t *rows, const long *flow) {
-  long low[MAX_NODES] = { 0 };
+static int is_lowest(const Instance *g, const uint16_t *rows, const long *flow) {
+  long low[YUVATONDRO_MAX_STEPS] = { 0 };
   while (lift_all(g, flow, low)) {}
   for (size_t v = 0; v < g->nodes; v++) if (rows[v] != low[v]) return 0;
   return 1;
 }
-const char *find_fault(const Instance *g, const uint8_t *rows, const long *flow, long total) {
+const char *find_fault(const Instance *g, const uint16_t *rows, const long *flow, long total) {
   if (!is_feasible(g, rows)) return "not feasible";
   if (total_of(g, rows) != total) return "total is not the peer's";
   if (!is_balanced(g, flow)) return "the peer's flow is not balanced";

@@ -3,11 +3,11 @@
 #define DRAWING_H
 #include "instance.h"
 
-enum { MAX_GAP = 4, MAX_ROWS = (MAX_NODES - 1) * MAX_GAP + 1, MAX_POINTS = 1024 };
+enum { MAX_ROWS = YUVATONDRO_MAX_ROW + 1 };
 
 typedef struct {
-  int row[MAX_NODES];
-  int place[MAX_EDGES][MAX_ROWS];  // of an edge: its position in the k-th row from its tail on, both ends included
+  int row[YUVATONDRO_MAX_STEPS];
+  int place[YUVATONDRO_MAX_EDGES][MAX_ROWS];  // of an edge: its position in the k-th row from its tail on, both ends included
 } Drawing;
 
 // 1 where every edge is at least as long as its gap.

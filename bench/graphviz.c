@@ -17,7 +17,7 @@ static GVC_t *context(void) {  // one for the whole run: plugins are loaded once
 }
 const char *dot_version(void) { return gvcVersion(context()); }
 
-typedef struct { Agraph_t *graph; Agnode_t *node[MAX_NODES]; Agedge_t *edge[MAX_EDGES]; } Built;
+typedef struct { Agraph_t *graph; Agnode_t *node[YUVATONDRO_MAX_STEPS]; Agedge_t *edge[YUVATONDRO_MAX_EDGES]; } Built;
 
 static void set_number(Agedge_t *e, Agsym_t *name, unsigned k) {
   char text[16];

@@ -1,20 +1,19 @@
-// Instances of the row problem, and where they come from.
+// Instances of the row problem, as large as a table may be, and where they come from.
 #ifndef INSTANCE_H
 #define INSTANCE_H
-#include <stddef.h>
-#include <stdint.h>
+#include "yuvatondro.h"
 #ifdef __cplusplus
 extern "C" {
 #endif
 
-enum { MAX_NODES = 64, MAX_EDGES = 192, MAX_NAME = 64 };
+enum { MAX_NAME = 64 };
 
 typedef struct { unsigned from, to, gap, weight; } Edge;
 
 typedef struct {
   char name[MAX_NAME];
   size_t nodes, edges;
-  Edge edge[MAX_EDGES];
+  Edge edge[YUVATONDRO_MAX_EDGES];
 } Instance;
 
 // shapes.c: instances by shape, size and seed; the same arguments always give the same instance.

@@ -2,9 +2,10 @@
 // benchmark writes and judges nothing.
 // Links: link k > 0 is edge k - 1, link 0 is none; next[a] <= a, so every list ends.
 #include "model.h"
+#include "yuvatondro.h"
 
 typedef uint64_t u;
-enum { NODES = 64, EDGES = 192 };
+enum { NODES = YUVATONDRO_MAX_STEPS, EDGES = YUVATONDRO_MAX_EDGES };
 static const u FAR = UINT64_MAX, HIGH = (u)1 << 44;
 
 typedef struct { u edge, room; } Exit;                   // an edge that leaves the marked set, and its room
@@ -308,11 +309,11 @@ static void read_net(Net *p, const uint8_t *in) {
     in = read_number(in, &p->weight[a]);
   }
 }
-Work solve_by_model(const uint8_t *table, uint8_t *rows) {
+Work solve_by_model(const uint8_t *table, uint16_t *rows) {
   static Net p;
   read_net(&p, table);
   pushes = raises = 0;
   solve(&p);
-  for (u v = 0; v < p.n; v++) rows[v] = (uint8_t)p.y[v];
+  for (u v = 0; v < p.n; v++) rows[v] = (uint16_t)p.y[v];
   return (Work){ pushes, raises };
 }

@@ -19,7 +19,8 @@
 enum { SEEDS = 2, EDGES_A_NODE = 3 };
 
 static void run_once(Instance *inst) {
-  static uint8_t table[MAX_TABLE], rows[MAX_NODES];
+  static uint8_t table[YUVATONDRO_MAX_STORED];
+  static uint16_t rows[YUVATONDRO_MAX_STEPS];
   static TextbookAnswer textbook;
   static PeerAnswer peer;
   size_t length = write_table(inst, table);
@@ -33,18 +34,19 @@ __attribute__((noinline)) void draw_once(const uint8_t *table, size_t length, Ch
   if (answer->refusal != 0) exit(1);
 }
 static void chart_once(Instance *inst) {
-  static uint8_t table[MAX_TABLE];
+  static uint8_t table[YUVATONDRO_MAX_STORED];
   static ChartAnswer answer;
   cut_to_accepted(inst);
   draw_once(table, write_table(inst, table), &answer);
 }
 // The rows of a table of soft edges, or of the same edges as kept or turned.
 static void soft_once(const SoftInstance *soft, int settled) {
-  static uint8_t table[MAX_TABLE], rows[MAX_NODES];
+  static uint8_t table[YUVATONDRO_MAX_STORED];
+  static uint16_t rows[YUVATONDRO_MAX_STEPS];
   size_t length = settled ? write_table(&soft->settled, table) : write_edition_2(&soft->written, SOFT, table);
   if (call_rows(table, length, rows, soft->written.nodes) != 0) exit(1);
 }
-static uint8_t form_table[MAX_TABLE], form_out[MAX_TABLE];
+static uint8_t form_table[YUVATONDRO_MAX_STORED], form_out[YUVATONDRO_MAX_STORED];
 static size_t read_once(const Instance *inst, Form form) {
   size_t length = write_form(inst, form, form_table);
   if (call_counts(form_table, length) != 0) exit(1);
@@ -104,7 +106,7 @@ static Run find_named(const char *name) {
 int main(int argc, char **argv) {
   Run run = argc == 3 ? find_named(argv[1]) : NULL;
   size_t nodes = argc == 2 || run ? strtoul(argv[argc - 1], NULL, 10) : 0;
-  if (nodes > MAX_NODES) return 2;
+  if (nodes > YUVATONDRO_MAX_STEPS) return 2;
   printf("%d\n", run ? run(nodes) : nodes > 0 ? run_shapes(nodes, run_once) : run_files(argc - 1, argv + 1));
   return 0;
 }

@@ -11,7 +11,7 @@ typedef void (*Call)(const uint8_t *table, size_t length, ChartAnswer *answer);
 // A table for each of the two ways; they may be the same.
 typedef struct {
   char name[MAX_NAME];
-  uint8_t table[2][MAX_TABLE];
+  uint8_t table[2][YUVATONDRO_MAX_STORED];
   size_t length[2];
   double turn[2][ROUNDS];
 } Pair;

@@ -10,7 +10,7 @@ extern "C" {
 typedef struct {
   double build_us, run_us;  // making the graph, its maps and the solver object; run() alone
   long total;
-  long flow[MAX_EDGES];
+  long flow[YUVATONDRO_MAX_EDGES];
 } PeerAnswer;
 
 // 0 where the benchmark was built without LEMON (no_peer.c); the next call is then not made.

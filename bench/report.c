@@ -56,8 +56,10 @@ static void print_building(const Group *group) {
 }
 static void print_not_lowest(const Group *group) {
   size_t count = 0;
-  for (size_t i = 0; i < group->count; i++)
-    count += memcmp(group->cases[i].rows, group->cases[i].textbook.rows, group->cases[i].inst.nodes) != 0;
+  for (size_t i = 0; i < group->count; i++) {
+    const Case *c = &group->cases[i];
+    count += memcmp(c->rows, c->textbook.rows, c->inst.nodes * sizeof *c->rows) != 0;
+  }
   printf("  the textbook method's rows are least, but not the lowest, on %zu of %zu\n", count, group->count);
 }
 void print_group(const char *title, const Group *group) {

@@ -36,6 +36,6 @@ size_t write_table(const Instance *g, uint8_t *table) { return write_form(g, (Fo
 size_t write_edition_2(const Instance *g, unsigned firmness, uint8_t *table) {
   return write_form(g, (Form){ 2, firmness, 0, 1 }, table);
 }
-unsigned call_rows(const uint8_t *table, size_t length, uint8_t *rows, size_t nodes) {
+unsigned call_rows(const uint8_t *table, size_t length, uint16_t *rows, size_t nodes) {
   return yuvatondro_refusal(yuvatondro_rows(table, length, rows, nodes));
 }

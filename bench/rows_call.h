@@ -3,8 +3,6 @@
 #define ROWS_CALL_H
 #include "instance.h"
 
-enum { MAX_TABLE = 4489 };
-
 // How an instance is written as a table: the edition, in edition 2 the firmness of all edges, and the least number of bytes for a number.
 // Its steps are checks with names of one byte, or full steps: adjustments with the largest tolerance and the longest name.
 enum { MUST, SOFT };
@@ -16,5 +14,5 @@ size_t write_table(const Instance *inst, uint8_t *table);
 size_t write_edition_2(const Instance *inst, unsigned firmness, uint8_t *table);
 
 // Rows of a table; 0, or the number of the refusal.
-unsigned call_rows(const uint8_t *table, size_t length, uint8_t *rows, size_t nodes);
+unsigned call_rows(const uint8_t *table, size_t length, uint16_t *rows, size_t nodes);
 #endif

@@ -11,7 +11,8 @@ enum { ROUNDS = 15, MAX_CASES = 64 };
 
 typedef struct {
   Instance inst;
-  uint8_t table[MAX_TABLE], rows[MAX_NODES];
+  uint8_t table[YUVATONDRO_MAX_STORED];
+  uint16_t rows[YUVATONDRO_MAX_STEPS];
   size_t length;
   PeerAnswer peer;
   TextbookAnswer textbook;

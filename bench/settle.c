@@ -13,7 +13,7 @@ enum { NODES = 64, EDGES = 192, SEEDS = 2 };
 typedef void (*MakeSoft)(SoftInstance *, size_t, size_t, size_t, uint64_t);
 
 static void rows_of(const uint8_t *table, size_t length, ChartAnswer *answer) {
-  answer->refusal = call_rows(table, length, answer->rows, MAX_NODES);
+  answer->refusal = call_rows(table, length, answer->rows, YUVATONDRO_MAX_STEPS);
 }
 
 static void add_soft(Pairs *p, const SoftInstance *soft) {

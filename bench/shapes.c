@@ -113,7 +113,7 @@ static const struct { const char *name; void (*make)(Instance *, size_t); } shap
 size_t shape_count(void) { return sizeof shapes / sizeof *shapes; }
 
 static void renumber(Instance *g) {
-  size_t number[MAX_NODES];
+  size_t number[YUVATONDRO_MAX_STEPS];
   for (size_t v = 0; v < g->nodes; v++) number[v] = v;
   for (size_t v = g->nodes; v-- > 1;) {
     size_t k = below(v + 1), x = number[v];

@@ -4,8 +4,8 @@
 #include "soft.h"
 
 typedef struct {
-  size_t visited, place[MAX_NODES];  // the place of a node in the order of visits, from 1; 0 before its visit
-  int in_tree[MAX_EDGES];
+  size_t visited, place[YUVATONDRO_MAX_STEPS];  // the place of a node in the order of visits, from 1; 0 before its visit
+  int in_tree[YUVATONDRO_MAX_EDGES];
 } Search;
 
 static unsigned other_end(const Edge *e, size_t v) { return e->from == v ? e->to : e->from; }
@@ -36,7 +36,7 @@ static void take_edges(const Instance *g, const Search *s, int in_tree, Instance
 
 // Whether a way over kept edges leads from one node to another; only the first `edges` are looked at. Plain, so that it is easy to trust.
 static int leads(const Instance *g, const int *kept, size_t edges, size_t from, size_t to) {
-  int reached[MAX_NODES] = { 0 }, grows = 1;
+  int reached[YUVATONDRO_MAX_STEPS] = { 0 }, grows = 1;
   reached[from] = 1;
   while (grows) {
     grows = 0;
@@ -49,7 +49,7 @@ static int leads(const Instance *g, const int *kept, size_t edges, size_t from, 
   return reached[to];
 }
 static void settle(SoftInstance *soft) {
-  int kept[MAX_EDGES];
+  int kept[YUVATONDRO_MAX_EDGES];
   const Instance *g = &soft->written;
   soft->settled = *g;
   soft->turned = 0;

@@ -9,23 +9,28 @@
 #include <string.h>
 #include <ucontext.h>
 
-enum { STACK = 1 << 20, PAINT = 0xA5, SEEDS = 2, SIZES = 4, SMALLEST = 8, EDGES_A_NODE = 3, CUTS = 16, MAX_POINTS = 1024 };
+enum { STACK = 1 << 20, PAINT = 0xA5, SEEDS = 2, SIZES = 4, SMALLEST = 8, EDGES_A_NODE = 3, CUTS = 16 };
 
 typedef struct { const Instance *inst; const uint8_t *table; size_t length; } Input;
 typedef struct { const char *name; uint64_t (*run)(const Input *); size_t depth; unsigned done, refused; } Call;
 
-static uint8_t rows[MAX_NODES], shortest[YUVATONDRO_MAX_SHORTEST];
-static uint16_t order[MAX_POINTS];
-static size_t records[4 * MAX_EDGES];
+static uint8_t shortest[YUVATONDRO_MAX_SHORTEST];
+static uint16_t rows[YUVATONDRO_MAX_STEPS], order[YUVATONDRO_MAX_POINTS];
+static size_t records[4 * YUVATONDRO_MAX_EDGES];
 
 static uint64_t run_nothing(const Input *in) { return in->length == 0; }
 static uint64_t run_counts(const Input *in) { return yuvatondro_counts(in->table, in->length); }
 static uint64_t run_name(const Input *in) { return yuvatondro_name(in->table, in->length, 0); }
 static uint64_t run_write(const Input *in) { return yuvatondro_write(in->table, in->length, shortest, YUVATONDRO_MAX_SHORTEST); }
 static uint64_t run_convert(const Input *in) { return yuvatondro_convert(in->table, in->length, shortest, YUVATONDRO_MAX_SHORTEST); }
-static uint64_t run_rows(const Input *in) { return yuvatondro_rows(in->table, in->length, rows, MAX_NODES); }
-static uint64_t run_records(const Input *in) { return yuvatondro_records(in->inst->nodes, records, 4 * in->inst->edges, rows, MAX_NODES); }
-static uint64_t run_chart(const Input *in) { return yuvatondro_chart(in->table, in->length, rows, MAX_NODES, order, MAX_POINTS); }
+static uint64_t run_rows(const Input *in) { return yuvatondro_rows(in->table, in->length, rows, YUVATONDRO_MAX_STEPS); }
+static uint64_t run_records(const Input *in) {
+  return yuvatondro_records(in->inst->nodes, records, 4 * in->inst->edges, rows, YUVATONDRO_MAX_STEPS);
+}
+static uint64_t draw(const uint8_t *table, size_t length) {
+  return yuvatondro_chart(table, length, rows, YUVATONDRO_MAX_STEPS, order, YUVATONDRO_MAX_POINTS);
+}
+static uint64_t run_chart(const Input *in) { return draw(in->table, in->length); }
 
 static Call calls[] = { { "counts", run_counts, 0, 0, 0 }, { "name", run_name, 0, 0, 0 }, { "write", run_write, 0, 0, 0 },
                         { "convert", run_convert, 0, 0, 0 }, { "rows", run_rows, 0, 0, 0 }, { "records", run_records, 0, 0, 0 },
@@ -70,18 +75,18 @@ static void measure_all(const Instance *inst, const uint8_t *table, size_t lengt
   for (int k = 0; k < CALLS; k++) measure(&calls[k], &in, way);
 }
 static void measure_table(const Instance *inst) {
-  static uint8_t table[MAX_TABLE];
+  static uint8_t table[YUVATONDRO_MAX_STORED];
   measure_all(inst, table, write_table(inst, table));
 }
 static void measure_cut_short(const Instance *inst) {
-  static uint8_t table[MAX_TABLE];
+  static uint8_t table[YUVATONDRO_MAX_STORED];
   size_t length = write_table(inst, table);
   for (size_t k = 0; k < CUTS; k++) measure_all(inst, table, length * k / CUTS);
 }
 static void measure_accepted(Instance inst) {
-  static uint8_t table[MAX_TABLE];
+  static uint8_t table[YUVATONDRO_MAX_STORED];
   size_t length = write_table(&inst, table);
-  while (yuvatondro_chart(table, length, rows, MAX_NODES, order, MAX_POINTS) % 256 == YUVATONDRO_MANY_POINTS) {
+  while (yuvatondro_refusal(draw(table, length)) == YUVATONDRO_MANY_POINTS) {
     inst.edges--;
     length = write_table(&inst, table);
   }
@@ -94,7 +99,7 @@ static void measure_loop(Instance inst) {
 }
 // Soft edges, every second one the other way, so that some are turned.
 static void measure_soft(Instance inst) {
-  static uint8_t table[MAX_TABLE];
+  static uint8_t table[YUVATONDRO_MAX_STORED];
   for (size_t i = 0; i < inst.edges; i += 2) {
     Edge *e = &inst.edge[i];
     *e = (Edge){ e->to, e->from, e->gap, e->weight };

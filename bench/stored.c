@@ -4,7 +4,7 @@
 #include <string.h>
 
 static int read_edges(Instance *g, FILE *in) {
-  if (fscanf(in, "%zu %zu", &g->nodes, &g->edges) != 2 || g->nodes > MAX_NODES || g->edges > MAX_EDGES) return 0;
+  if (fscanf(in, "%zu %zu", &g->nodes, &g->edges) != 2 || g->nodes > YUVATONDRO_MAX_STEPS || g->edges > YUVATONDRO_MAX_EDGES) return 0;
   for (size_t i = 0; i < g->edges; i++) {
     Edge *e = &g->edge[i];
     if (fscanf(in, "%u %u %u %u", &e->from, &e->to, &e->gap, &e->weight) != 4) return 0;

@@ -13,14 +13,14 @@ enum { NONE = -1 };
 typedef struct {
   const Instance *g;
   int nodes, edges;
-  int start[MAX_NODES + 1], touching[2 * MAX_EDGES];  // the edges at each node
-  int row[MAX_NODES];
-  char in_tree[MAX_EDGES], reached[MAX_NODES];
-  int root[MAX_NODES], roots;                         // a node of each part
-  int order[MAX_NODES], place[MAX_NODES];             // the nodes as the walk of the forest meets them: parents first
-  int last[MAX_NODES];                                // the place behind the last node below a node
-  int up[MAX_NODES];                                  // the edge to the parent
-  long net[MAX_NODES], cut[MAX_EDGES];                // weight out of a node less weight into it; cut values of tree edges
+  int start[YUVATONDRO_MAX_STEPS + 1], touching[2 * YUVATONDRO_MAX_EDGES];  // the edges at each node
+  int row[YUVATONDRO_MAX_STEPS];
+  char in_tree[YUVATONDRO_MAX_EDGES], reached[YUVATONDRO_MAX_STEPS];
+  int root[YUVATONDRO_MAX_STEPS], roots;                                    // a node of each part
+  int order[YUVATONDRO_MAX_STEPS], place[YUVATONDRO_MAX_STEPS];             // the nodes as the walk of the forest meets them: parents first
+  int last[YUVATONDRO_MAX_STEPS];                                           // the place behind the last node below a node
+  int up[YUVATONDRO_MAX_STEPS];                                             // the edge to the parent
+  long net[YUVATONDRO_MAX_STEPS], cut[YUVATONDRO_MAX_EDGES];                // weight out of a node less into it; cut values of tree edges
   int next, idle_run;
 } Forest;
 
@@ -33,7 +33,7 @@ static int slack_of(const Forest *f, int i) {
 // ---- edges by node, rows by longest path ----
 
 static void list_edges(Forest *f) {
-  int fill[MAX_NODES];
+  int fill[YUVATONDRO_MAX_STEPS];
   memset(f->start, 0, sizeof f->start);
   memset(f->net, 0, sizeof f->net);
   for (int i = 0; i < f->edges; i++) {
@@ -61,7 +61,7 @@ static void settle(Forest *f, int v, int *waiting, int *queue, int *count) {
   }
 }
 static void place_by_longest_path(Forest *f) {
-  int waiting[MAX_NODES] = { 0 }, queue[MAX_NODES], count = 0;
+  int waiting[YUVATONDRO_MAX_STEPS] = { 0 }, queue[YUVATONDRO_MAX_STEPS], count = 0;
   for (int i = 0; i < f->edges; i++) waiting[f->g->edge[i].to]++;
   for (int v = 0; v < f->nodes; v++) {
     f->row[v] = 0;
@@ -97,7 +97,7 @@ static int find_nearest(const Forest *f, const int *queue, int count) {
   return best;
 }
 static void grow_tree(Forest *f, int root) {
-  int queue[MAX_NODES] = { root }, count = 1, done = 0, i;
+  int queue[YUVATONDRO_MAX_STEPS] = { root }, count = 1, done = 0, i;
   f->root[f->roots++] = root;
   f->reached[root] = 1;
   for (;;) {
@@ -133,7 +133,7 @@ static void walk(Forest *f) {
 }
 // The weight that leaves the nodes below a tree edge less what enters them; edges among those nodes cancel out.
 static void find_cuts(Forest *f) {
-  long below[MAX_NODES];
+  long below[YUVATONDRO_MAX_STEPS];
   memcpy(below, f->net, sizeof below);
   for (int k = f->nodes; k-- > 0;) {
     int v = f->order[k], i = f->up[v];

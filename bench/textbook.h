@@ -4,9 +4,9 @@
 #include "instance.h"
 
 typedef struct {
-  uint8_t rows[MAX_NODES];   // feasible and of least total, each part of the chart from row 0 on; not always the lowest
-  long flow[MAX_EDGES];      // the cut values of the last tree, 0 off the tree: a flow that shows the rows to be least
-  unsigned exchanges, idle;  // exchanges of a tree edge, and those of them that left the rows as they were
+  uint16_t rows[YUVATONDRO_MAX_STEPS];  // feasible and of least total, each part of the chart from row 0 on; not always the lowest
+  long flow[YUVATONDRO_MAX_EDGES];      // the cut values of the last tree, 0 off the tree: a flow that shows the rows to be least
+  unsigned exchanges, idle;             // exchanges of a tree edge, and those of them that left the rows as they were
 } TextbookAnswer;
 
 // The instance has no loop.

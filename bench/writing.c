@@ -45,17 +45,17 @@ static void read_tables(const uint8_t *table, size_t length, ChartAnswer *answer
   for (int k = 0; k < calls; k++) answer->refusal = call_counts(table, length);
 }
 static void write_tables(const uint8_t *table, size_t length, ChartAnswer *answer) {
-  static uint8_t out[MAX_TABLE];
+  static uint8_t out[YUVATONDRO_MAX_STORED];
   for (int k = 0; k < calls; k++) answer->refusal = timed->call(table, length, out) == 0;
 }
 static void find_rows(const uint8_t *table, size_t length, ChartAnswer *answer) {
-  static uint8_t rows[MAX_NODES];
-  for (int k = 0; k < calls; k++) answer->refusal = call_rows(table, length, rows, MAX_NODES);
+  static uint16_t rows[YUVATONDRO_MAX_STEPS];
+  for (int k = 0; k < calls; k++) answer->refusal = call_rows(table, length, rows, YUVATONDRO_MAX_STEPS);
 }
 
 // The benchmark knows the shortest form, as it writes each table itself.
 static void check_written(const Pair *pair, const Instance *inst, Form form) {
-  static uint8_t wanted[MAX_TABLE], out[MAX_TABLE];
+  static uint8_t wanted[YUVATONDRO_MAX_STORED], out[YUVATONDRO_MAX_STORED];
   size_t length = write_form(inst, (Form){ form.firmness == SOFT ? 2 : 1, form.firmness, form.full_steps, 1 }, wanted);
   if (timed->call(pair->table[1], pair->length[1], out) == length && memcmp(out, wanted, length) == 0) return;
   printf("%s: %s: the shortest form is wrong, or refused\n", timed->name, pair->name);
@@ -143,7 +143,7 @@ static void open_timing(Timing *r, const char *first, Call call) {
 static void print_work(Timing *timings, int count) {
   for (int k = 0; k < count; k++) open_timing(&timings[k], "reading", read_tables);
   print_head(timings, count);
-  for (size_t nodes = SMALLEST; nodes <= MAX_NODES; nodes *= 2) print_forms(timings, count, nodes);
+  for (size_t nodes = SMALLEST; nodes <= YUVATONDRO_MAX_STEPS; nodes *= 2) print_forms(timings, count, nodes);
   for (int k = 0; k < count; k++) print_summary(&timings[k]);
 }
 
@@ -157,7 +157,7 @@ int main(void) {
   print_work(converted, TIMINGS);
   open_timing(&rows, "rows", find_rows);
   print_head(&rows, 1);
-  for (size_t nodes = SMALLEST; nodes <= MAX_NODES; nodes *= 2) print_group(&rows, 1, nodes, choose_form(nodes, 0, 0));
+  for (size_t nodes = SMALLEST; nodes <= YUVATONDRO_MAX_STEPS; nodes *= 2) print_group(&rows, 1, nodes, choose_form(nodes, 0, 0));
   printf("\nThe shortest form was right on every table.\n");
   return 0;
 }
