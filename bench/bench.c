@@ -7,12 +7,13 @@
 // for a table. Back to back: one program many times on one instance, the least kept: branch predictor and caches know the run.
 #include "check.h"
 #include "rows_case.h"
+#include "sizes.h"
 #include <math.h>
 #include <stdio.h>
 #include <stdlib.h>
 #include <string.h>
 
-enum { VISITS = 4, REPEATS = 5, SEEDS = 2, SIZES = 4, SMALLEST = 8, EDGES_A_NODE = 3 };
+enum { VISITS = 4, REPEATS = 5 };
 
 static void stop(const Case *c, const char *fault) {
   printf("%s: %s\n", c->inst.name, fault);
@@ -75,38 +76,50 @@ static void run_group(Group *g) {
 }
 
 static void prepare(Case *c) { c->length = write_table(&c->inst, c->table); }
-static void make_shapes(Group *g, size_t nodes) {
+static void set_size(Group *g, size_t nodes) {
   g->nodes = nodes;
   g->edges = nodes * EDGES_A_NODE;
+}
+static void make_shapes(Group *g) {
   for (size_t shape = 0; shape < shape_count(); shape++)
     for (int seed = 1; seed <= SEEDS; seed++) {
       Case *c = &g->cases[g->count++];
-      make_shape(&c->inst, shape, nodes, g->edges, seed);
+      make_shape(&c->inst, shape, g->nodes, g->edges, seed);
       prepare(c);
     }
 }
-static void read_stored(Group *g, int files, char **paths) {
+// Each to the group of its size.
+static void read_stored(Group *groups, int files, char **paths) {
+  static Instance inst;
   for (int k = 0; k < files; k++) {
-    Case *c = &g->cases[g->count++];
-    if (!read_instance(&c->inst, paths[k])) {
-      printf("%s: no instance\n", paths[k]);
+    int size = read_instance(&inst, paths[k]) ? find_size(inst.nodes) : SIZES;
+    if (size == SIZES) {
+      printf("%s: no instance of a size that is measured\n", paths[k]);
       exit(1);
     }
+    Case *c = &groups[size].cases[groups[size].count++];
+    c->inst = inst;
     prepare(c);
   }
 }
 
 int main(int argc, char **argv) {
-  static Group shapes[SIZES], searched;
+  static Group shapes[SIZES], searched[SIZES];
   if (argc - 1 > MAX_CASES || shape_count() * SEEDS > MAX_CASES) return 2;
-  for (int k = 0; k < SIZES; k++) make_shapes(&shapes[k], (size_t)SMALLEST << k);
-  read_stored(&searched, argc - 1, argv + 1);
+  for (int k = 0; k < SIZES; k++) {
+    set_size(&shapes[k], node_counts[k]);
+    set_size(&searched[k], node_counts[k]);
+    make_shapes(&shapes[k]);
+  }
+  read_stored(searched, argc - 1, argv + 1);
   for (int k = 0; k < SIZES; k++) run_group(&shapes[k]);
-  run_group(&searched);
-  print_group("Shapes, 64 nodes and 192 edges at most", &shapes[SIZES - 1]);
-  print_group("Found by searching for instances bad for this method", &searched);
-  print_growth(shapes, SIZES, &searched);
-  print_worst(&shapes[SIZES - 1], &searched);
+  for (int k = 0; k < SIZES; k++) run_group(&searched[k]);
+  for (int k = FIRST_SHOWN; k < SIZES; k++) {
+    print_group("Shapes", &shapes[k]);
+    print_group("Found by searching for instances bad for this method", &searched[k]);
+    print_worst(&shapes[k], &searched[k]);
+  }
+  print_growth(shapes, searched, SIZES);
   printf("\nEvery answer of every round was checked: feasible, of the peers' total, least and lowest by certificate.\n");
   return 0;
 }

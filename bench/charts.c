@@ -7,12 +7,13 @@
 #include "chart_call.h"
 #include "graphviz.h"
 #include "rows_call.h"
+#include "sizes.h"
 #include <math.h>
 #include <stdio.h>
 #include <stdlib.h>
 #include <string.h>
 
-enum { ROUNDS = 5, SEEDS = 2, SIZES = 4, SMALLEST = 8, EDGES_A_NODE = 3, MAX_CASES = 64 };
+enum { ROUNDS = 5, MAX_CASES = 64 };
 
 typedef struct {
   Instance inst;
@@ -24,8 +25,10 @@ typedef struct {
   double ours_again[ROUNDS], dot_again[ROUNDS];
 } Case;
 
-// The shapes of one size: those accepted as they are, and those cut until they are.
-typedef struct { Case whole[MAX_CASES], near[MAX_CASES]; size_t count, near_count, nodes; } Size;
+typedef struct { Case cases[MAX_CASES]; size_t count; } Group;
+
+// The tables of one size: the shapes that are accepted as they are, those cut until they are, and the stored instances that are accepted.
+typedef struct { Group whole, near, stored; size_t nodes, stored_refused; } Size;
 
 typedef struct { double log_sum, least; const char *least_name; size_t count; } Ratios;
 
@@ -88,9 +91,9 @@ static void run_case(Case *c, int round) {
   run_dots(c, round);
   if (round % 2) run_ours_twice(c, round);
 }
-static void run_all(Case *cases, size_t count) {
+static void run_group(Group *g) {
   for (int round = 0; round < ROUNDS; round++)
-    for (size_t i = 0; i < count; i++) run_case(&cases[i], round);
+    for (size_t i = 0; i < g->count; i++) run_case(&g->cases[i], round);
 }
 
 static double median(const double *times) { return median_of(times, ROUNDS); }
@@ -117,15 +120,15 @@ static void print_ratios(const Ratios *ratios) {
 static void add_case(Ratios *ratios, const Case *c) {
   for (int s = 0; s < SETTINGS; s++) add_ratio(&ratios[s], median(c->dot[s]) / median(c->ours), c->inst.name);
 }
-static void print_group(const char *title, const Case *cases, size_t count, Ratios *all) {
+static void print_group(const char *title, const Group *g, Ratios *all) {
   Ratios group[SETTINGS] = { 0 };
-  if (count == 0) return;
+  if (g->count == 0) return;
   printf("\n%s\n%-16s %5s %5s %6s | crossings: ours, dot | ours | dot, dot / ours: ranks and order, no curves, as it comes | apart (us)\n",
          title, "", "nodes", "edges", "points");
-  for (size_t i = 0; i < count; i++) {
-    print_case(&cases[i]);
-    add_case(group, &cases[i]);
-    add_case(all, &cases[i]);
+  for (size_t i = 0; i < g->count; i++) {
+    print_case(&g->cases[i]);
+    add_case(group, &g->cases[i]);
+    add_case(all, &g->cases[i]);
   }
   print_ratios(group);
 }
@@ -148,51 +151,59 @@ static void make_size(Size *s, size_t nodes) {
   s->nodes = nodes;
   for (size_t shape = 0; shape < shape_count(); shape++)
     for (int seed = 1; seed <= SEEDS; seed++) {
-      Case *c = &s->whole[s->count];
+      Case *c = &s->whole.cases[s->whole.count];
       make_shape(&c->inst, shape, nodes, nodes * EDGES_A_NODE, seed);
       if (is_accepted(c)) {
-        s->count++;
+        s->whole.count++;
         continue;
       }
-      s->near[s->near_count] = *c;
-      cut(&s->near[s->near_count++]);
+      s->near.cases[s->near.count] = *c;
+      cut(&s->near.cases[s->near.count++]);
     }
 }
 static void run_size(Size *s) {
-  run_all(s->whole, s->count);
-  run_all(s->near, s->near_count);
+  run_group(&s->whole);
+  run_group(&s->near);
+  run_group(&s->stored);
 }
 
-// The stored instances that are accepted.
-static size_t read_stored(Case *cases, int files, char **paths) {
-  size_t count = 0;
+// A stored instance goes to its size, if it is accepted.
+static void add_stored(Size *s, const Instance *inst) {
+  Case *c = &s->stored.cases[s->stored.count];
+  c->inst = *inst;
+  if (is_accepted(c)) s->stored.count++;
+  else s->stored_refused++;
+}
+static void read_stored(Size *sizes, int files, char **paths) {
+  static Instance inst;
   for (int k = 0; k < files; k++) {
-    if (!read_instance(&cases[count].inst, paths[k])) {
-      printf("%s: no instance\n", paths[k]);
+    int size = read_instance(&inst, paths[k]) ? find_size(inst.nodes) : SIZES;
+    if (size == SIZES) {
+      printf("%s: no instance of a size that is measured\n", paths[k]);
       exit(1);
     }
-    count += is_accepted(&cases[count]);
+    add_stored(&sizes[size], &inst);
   }
-  return count;
 }
 
 // Geometric means at a size: points, time of ours, and of dot's ranks and order alone, each in turn and again.
 typedef struct { double points, ours, dot, ours_again, dot_again; } SizeMeans;
 
-static void add_logs(SizeMeans *m, const Case *cases, size_t count) {
-  for (size_t i = 0; i < count; i++) {
-    m->points += log(cases[i].answer.points);
-    m->ours += log(median(cases[i].ours));
-    m->dot += log(median(cases[i].dot[ORDER_ONLY]));
-    m->ours_again += log(median(cases[i].ours_again));
-    m->dot_again += log(median(cases[i].dot_again));
+static void add_logs(SizeMeans *m, const Group *g) {
+  for (size_t i = 0; i < g->count; i++) {
+    const Case *c = &g->cases[i];
+    m->points += log(c->answer.points);
+    m->ours += log(median(c->ours));
+    m->dot += log(median(c->dot[ORDER_ONLY]));
+    m->ours_again += log(median(c->ours_again));
+    m->dot_again += log(median(c->dot_again));
   }
 }
 static SizeMeans means_of(const Size *s) {
   SizeMeans m = { 0 };
-  add_logs(&m, s->whole, s->count);
-  add_logs(&m, s->near, s->near_count);
-  size_t all = s->count + s->near_count;
+  add_logs(&m, &s->whole);
+  add_logs(&m, &s->near);
+  size_t all = s->whole.count + s->near.count;
   return (SizeMeans){ exp(m.points / all), exp(m.ours / all), exp(m.dot / all), exp(m.ours_again / all), exp(m.dot_again / all) };
 }
 static void print_growth(const Size *sizes) {
@@ -202,59 +213,58 @@ static void print_growth(const Size *sizes) {
     SizeMeans m = means_of(&sizes[k]);
     printf("size %zu/%zu points %.0f ours %.1f dot %.0f ratio %.1f, again %.1f %.0f %.1f", sizes[k].nodes, sizes[k].nodes * EDGES_A_NODE,
            m.points, m.ours, m.dot, m.dot / m.ours, m.ours_again, m.dot_again, m.dot_again / m.ours_again);
-    if (k > 0) printf("; twice the size: points x %.1f, ours x %.1f, dot x %.1f", m.points / before.points, m.ours / before.ours, m.dot / before.dot);
+    if (k > 0)
+      printf("; %.1f times the size: points x %.1f, ours x %.1f, dot x %.1f", (double)sizes[k].nodes / sizes[k - 1].nodes,
+             m.points / before.points, m.ours / before.ours, m.dot / before.dot);
     printf("\n");
     before = m;
   }
 }
-static size_t count_not_least(const Case *cases, size_t count) {
+static size_t count_not_least(const Group *g) {
   size_t more = 0;
-  for (size_t i = 0; i < count; i++) more += cases[i].dot_total > cases[i].answer.total;
+  for (size_t i = 0; i < g->count; i++) more += g->cases[i].dot_total > g->cases[i].answer.total;
   return more;
 }
-static void print_not_least(const Size *sizes, const Case *stored, size_t stored_count) {
-  size_t more = count_not_least(stored, stored_count), all = stored_count;
+static void print_not_least(const Size *sizes) {
+  size_t more = 0, all = 0;
   for (int k = 0; k < SIZES; k++) {
-    more += count_not_least(sizes[k].whole, sizes[k].count) + count_not_least(sizes[k].near, sizes[k].near_count);
-    all += sizes[k].count + sizes[k].near_count;
+    const Size *s = &sizes[k];
+    more += count_not_least(&s->whole) + count_not_least(&s->near) + count_not_least(&s->stored);
+    all += s->whole.count + s->near.count + s->stored.count;
   }
   printf("\ndot's ranks are feasible on all %zu tables of all sizes, and not of least total on %zu\n", all, more);
 }
-static const Case *find_slowest(const Case *slowest, const Case *cases, size_t count) {
-  for (size_t i = 0; i < count; i++) if (median(cases[i].ours) > median(slowest->ours)) slowest = &cases[i];
+static const Case *find_slowest(const Case *slowest, const Group *g) {
+  for (size_t i = 0; i < g->count; i++) if (!slowest || median(g->cases[i].ours) > median(slowest->ours)) slowest = &g->cases[i];
   return slowest;
 }
-static void print_slowest(const Size *s, const Case *stored, size_t stored_count) {
-  const Case *slowest = find_slowest(find_slowest(s->whole, s->whole, s->count), s->near, s->near_count);
-  slowest = find_slowest(slowest, stored, stored_count);
-  printf("\nThe slowest table of ours: %.0f us (%s, %ld points)\n", median(slowest->ours), slowest->inst.name, slowest->answer.points);
+static void print_slowest(const Size *s) {
+  const Case *slowest = find_slowest(find_slowest(find_slowest(NULL, &s->whole), &s->near), &s->stored);
+  printf("The slowest table of ours: %.0f us (%s, %ld points)\n", median(slowest->ours), slowest->inst.name, slowest->answer.points);
 }
-static void print_counts(const char *title, size_t accepted, size_t refused) {
-  printf("%s: %zu accepted, %zu refused for their points\n", title, accepted, refused);
+static void print_size(const Size *s) {
+  Ratios all[SETTINGS] = { 0 };
+  size_t edges = s->nodes * EDGES_A_NODE;
+  printf("\n%zu/%zu: of the shapes %zu accepted, %zu refused for their points; of the stored instances %zu and %zu\n", s->nodes, edges,
+         s->whole.count, s->near.count, s->stored.count, s->stored_refused);
+  print_group("Shapes", &s->whole, all);
+  print_group("The refused shapes, with as many of their first edges as are accepted", &s->near, all);
+  print_group("Stored: found by searching for instances bad for our rows", &s->stored, all);
+  printf("\nAll tables of %zu/%zu: dot over ours\n", s->nodes, edges);
+  print_ratios(all);
+  print_slowest(s);
 }
 
 int main(int argc, char **argv) {
   static Size sizes[SIZES];
-  static Case stored[MAX_CASES];
-  const Size *full = &sizes[SIZES - 1];
-  Ratios all[SETTINGS] = { 0 };
-  size_t files = argc - 1;
-  if (files > MAX_CASES || shape_count() * SEEDS > MAX_CASES) return 2;
-  for (int k = 0; k < SIZES; k++) make_size(&sizes[k], (size_t)SMALLEST << k);
-  size_t stored_count = read_stored(stored, files, argv + 1);
+  if (argc - 1 > MAX_CASES || shape_count() * SEEDS > MAX_CASES) return 2;
+  for (int k = 0; k < SIZES; k++) make_size(&sizes[k], node_counts[k]);
+  read_stored(sizes, argc - 1, argv + 1);
   printf("graphviz %s\n", dot_version());
-  print_counts("Shapes", full->count, full->near_count);
-  print_counts("Stored", stored_count, files - stored_count);
   for (int k = 0; k < SIZES; k++) run_size(&sizes[k]);
-  run_all(stored, stored_count);
-  print_group("Shapes, 64 nodes and 192 edges at most", full->whole, full->count, all);
-  print_group("The refused shapes, with as many of their first edges as are accepted", full->near, full->near_count, all);
-  print_group("Stored: found by searching for instances bad for our rows", stored, stored_count, all);
-  printf("\nAll tables of this size\n");
-  print_ratios(all);
+  for (int k = FIRST_SHOWN; k < SIZES; k++) print_size(&sizes[k]);
   print_growth(sizes);
-  print_not_least(sizes, stored, stored_count);
-  print_slowest(full, stored, stored_count);
+  print_not_least(sizes);
   printf("\nEvery answer of ours was counted again from its rows and order.\n");
   return 0;
 }

@@ -1,4 +1,5 @@
 // Finds rows by every program once on each instance and prints how many there were: bench/instructions counts what each executes.
+//   once sizes          prints the sizes that are measured instead, as 8/24
 //   once NODES          the shapes of that size
 //   once FILE..         the stored instances
 //   once charts NODES   the charts of the shapes of that size, cut to as many edges as are accepted
@@ -9,14 +10,13 @@
 #include "chart_call.h"
 #include "peer.h"
 #include "rows_call.h"
+#include "sizes.h"
 #include "soft.h"
 #include "textbook.h"
 #include "write_call.h"
 #include <stdio.h>
 #include <stdlib.h>
 #include <string.h>
-
-enum { SEEDS = 2, EDGES_A_NODE = 3 };
 
 static void run_once(Instance *inst) {
   static uint8_t table[YUVATONDRO_MAX_STORED];
@@ -103,7 +103,13 @@ static Run find_named(const char *name) {
   return NULL;
 }
 
+static int print_sizes(void) {
+  for (int k = 0; k < SIZES; k++) printf("%zu/%zu\n", node_counts[k], node_counts[k] * EDGES_A_NODE);
+  return 0;
+}
+
 int main(int argc, char **argv) {
+  if (argc == 2 && strcmp(argv[1], "sizes") == 0) return print_sizes();
   Run run = argc == 3 ? find_named(argv[1]) : NULL;
   size_t nodes = argc == 2 || run ? strtoul(argv[argc - 1], NULL, 10) : 0;
   if (nodes > YUVATONDRO_MAX_STEPS) return 2;

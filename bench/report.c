@@ -64,8 +64,8 @@ static void print_not_lowest(const Group *group) {
 }
 void print_group(const char *title, const Group *group) {
   if (group->count == 0) return;
-  printf("\n%s\n%-16s nodes edges | in turn (us): ours, textbook, LEMON | ours over textbook, LEMON | back to back | pushes, raises |"
-         " exchanges, idle\n", title, "");
+  printf("\n%s, %zu/%zu\n%-16s nodes edges | in turn (us): ours, textbook, LEMON | ours over textbook, LEMON | back to back | pushes, raises |"
+         " exchanges, idle\n", title, group->nodes, group->edges, "");
   for (size_t i = 0; i < group->count; i++) print_case(&group->cases[i]);
   print_ratios(group, TEXTBOOK);
   print_ratios(group, LEMON);
@@ -85,30 +85,30 @@ static double print_times(const Group *group, int program) {
   printf(" %s %.2f %.2f %.2f", names[program], mean_of(&times), least, times.worst);
   return mean_of(&times);
 }
-void print_growth(const Group *groups, size_t count, const Group *searched) {
-  double before[PROGRAMS] = { 0 };
-  printf("\nGrowth with size: in turn, over the shapes, geometric mean, least and most (us)\n");
-  for (size_t k = 0; k < count; k++) {
-    double now[PROGRAMS] = { 0 };
-    printf("size %zu/%zu", groups[k].nodes, groups[k].edges);
-    for (int p = 0; p < PROGRAMS; p++) if (is_here(p)) now[p] = print_times(&groups[k], p);
-    printf("\n");
-    if (k > 0) printf("  twice the size:");
-    for (int p = 0; k > 0 && p < PROGRAMS; p++) if (is_here(p)) printf(" %s x %.1f", names[p], now[p] / before[p]);
-    if (k > 0) printf("\n");
-    memcpy(before, now, sizeof before);
-  }
-  if (searched->count == 0) return;
-  printf("searched");
-  for (int p = 0; p < PROGRAMS; p++) if (is_here(p)) print_times(searched, p);
+// One line of them; the means go to `means`.
+static void print_size(const char *what, const Group *group, double *means) {
+  printf("%s %zu/%zu", what, group->nodes, group->edges);
+  for (int p = 0; p < PROGRAMS; p++) if (is_here(p)) means[p] = print_times(group, p);
   printf("\n");
+}
+void print_growth(const Group *shapes, const Group *searched, size_t sizes) {
+  double means[PROGRAMS] = { 0 }, before[PROGRAMS] = { 0 };
+  printf("\nGrowth with size: in turn, over the shapes, geometric mean, least and most (us)\n");
+  for (size_t k = 0; k < sizes; k++) {
+    print_size("size", &shapes[k], means);
+    if (k > 0) printf("  %.1f times the size:", (double)shapes[k].nodes / shapes[k - 1].nodes);
+    for (int p = 0; k > 0 && p < PROGRAMS; p++) if (is_here(p)) printf(" %s x %.1f", names[p], means[p] / before[p]);
+    if (k > 0) printf("\n");
+    memcpy(before, means, sizeof before);
+  }
+  for (size_t k = 0; k < sizes; k++) if (searched[k].count > 0) print_size("searched", &searched[k], means);
 }
 
 static void add_slowest(Means *slowest, const Group *group, int program) {
   for (size_t i = 0; i < group->count; i++) add(slowest, median(group->cases[i].turn[program]), group->cases[i].inst.name);
 }
 void print_worst(const Group *shapes, const Group *searched) {
-  printf("\nThe slowest instance of each, in turn (us):");
+  printf("\nThe slowest instance of each, %zu/%zu, in turn (us):", shapes->nodes, shapes->edges);
   for (int p = 0; p < PROGRAMS; p++) {
     Means slowest = { 0 };
     if (!is_here(p)) continue;

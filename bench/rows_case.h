@@ -20,11 +20,11 @@ typedef struct {
   Work work;
 } Case;
 
-// The instances of one size, or those found by searching.
+// Instances of one size: shapes, or those found by searching.
 typedef struct { Case cases[MAX_CASES]; size_t count, nodes, edges; } Group;
 
 // report.c
 void print_group(const char *title, const Group *group);
-void print_growth(const Group *groups, size_t count, const Group *searched);
+void print_growth(const Group *shapes, const Group *searched, size_t sizes);
 void print_worst(const Group *shapes, const Group *searched);
 #endif

@@ -4,12 +4,13 @@
 // each as it is, with its edges cut until the chart is accepted, with a loop, with soft edges, and with its bytes cut short in many places.
 #define _XOPEN_SOURCE 700
 #include "rows_call.h"
+#include "sizes.h"
 #include "yuvatondro.h"
 #include <stdio.h>
 #include <string.h>
 #include <ucontext.h>
 
-enum { STACK = 1 << 20, PAINT = 0xA5, SEEDS = 2, SIZES = 4, SMALLEST = 8, EDGES_A_NODE = 3, CUTS = 16 };
+enum { STACK = 1 << 20, PAINT = 0xA5, CUTS = 16 };
 
 typedef struct { const Instance *inst; const uint8_t *table; size_t length; } Input;
 typedef struct { const char *name; uint64_t (*run)(const Input *); size_t depth; unsigned done, refused; } Call;
@@ -124,7 +125,7 @@ static void measure_size(size_t nodes) {
 
 int main(int argc, char **argv) {
   static Instance inst;
-  for (int k = 0; k < SIZES; k++) measure_size((size_t)SMALLEST << k);
+  for (int k = 0; k < SIZES; k++) measure_size(node_counts[k]);
   for (int k = 1; k < argc; k++) {
     if (!read_instance(&inst, argv[k])) return 1;
     measure_instance(&inst);

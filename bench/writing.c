@@ -7,13 +7,14 @@
 // to back, many calls on one table. A call on a small table takes about as long as a look at the clock, so the time of that look is taken off.
 #include "clock.h"
 #include "pairs.h"
+#include "sizes.h"
 #include "write_call.h"
 #include <math.h>
 #include <stdio.h>
 #include <stdlib.h>
 #include <string.h>
 
-enum { LOOKS = 1001, SEEDS = 2, SMALLEST = 8, EDGES_A_NODE = 3, MAX_TITLE = 96, WAYS = 2 };
+enum { LOOKS = 1001, MAX_TITLE = 96, WAYS = 2 };
 
 static const struct { const char *name; unsigned edition, firmness; } editions[] = {
   { "edition 1", 1, MUST }, { "edition 2, all must", 2, MUST }, { "edition 2, all soft", 2, SOFT },
@@ -143,7 +144,7 @@ static void open_timing(Timing *r, const char *first, Call call) {
 static void print_work(Timing *timings, int count) {
   for (int k = 0; k < count; k++) open_timing(&timings[k], "reading", read_tables);
   print_head(timings, count);
-  for (size_t nodes = SMALLEST; nodes <= YUVATONDRO_MAX_STEPS; nodes *= 2) print_forms(timings, count, nodes);
+  for (int k = 0; k < SIZES; k++) print_forms(timings, count, node_counts[k]);
   for (int k = 0; k < count; k++) print_summary(&timings[k]);
 }
 
@@ -157,7 +158,7 @@ int main(void) {
   print_work(converted, TIMINGS);
   open_timing(&rows, "rows", find_rows);
   print_head(&rows, 1);
-  for (size_t nodes = SMALLEST; nodes <= YUVATONDRO_MAX_STEPS; nodes *= 2) print_group(&rows, 1, nodes, choose_form(nodes, 0, 0));
+  for (int k = 0; k < SIZES; k++) print_group(&rows, 1, node_counts[k], choose_form(node_counts[k], 0, 0));
   printf("\nThe shortest form was right on every table.\n");
   return 0;
 }
