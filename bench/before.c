@@ -1,13 +1,16 @@
 // Times this build of the library against an earlier one, on tables of edition 1, which both read.
 //   before FILE..        the shapes of shapes.c and the stored instances FILE..
-//   before once          rows and charts of the largest shapes once and untimed; prints how many tables each had
+//   before once          rows and charts of the largest shapes once and untimed; prints how many tables each had, and their size
 //
 // bench/before links both libraries, each with the adapters rows_call.c and chart_call.c, and gives the two names of their own.
+//
+// An earlier build may take smaller tables only, and up to version 1.3 it hands out rows as bytes. Both are found out by trial: what it
+// refuses for its size is left out, and bytes become entries of 16 bits before two answers are compared, behind the clock. Both builds are
+// lent the same buffer and told the same number of entries; of 16 bits each, it has room for as many bytes.
 #include "pairs.h"
+#include "sizes.h"
 #include <stdio.h>
 #include <string.h>
-
-enum { SEEDS = 2, SIZES = 4, SMALLEST = 8, EDGES_A_NODE = 3 };
 
 unsigned before_call_rows(const uint8_t *table, size_t length, uint16_t *rows, size_t nodes);
 void before_call_chart(const uint8_t *table, size_t length, ChartAnswer *answer);
@@ -23,6 +26,43 @@ static void rows_now(const uint8_t *table, size_t length, ChartAnswer *answer) {
   answer->refusal = now_call_rows(table, length, answer->rows, YUVATONDRO_MAX_STEPS);
 }
 
+// ---- what the earlier build takes and hands out ----
+
+// Its rows of a table of so many nodes, with so many edges from the first of them to the second.
+static unsigned try_earlier(size_t nodes, size_t edges, ChartAnswer *answer) {
+  static Instance inst;
+  static uint8_t table[YUVATONDRO_MAX_STORED];
+  inst.nodes = nodes;
+  inst.edges = edges;
+  for (size_t i = 0; i < edges; i++) inst.edge[i] = (Edge){ .from = 0, .to = 1, .gap = 1, .weight = 1 };
+  memset(answer, 255, sizeof *answer);
+  rows_before(table, now_write_table(&inst, table), answer);
+  return answer->refusal;
+}
+static int earlier_takes(size_t nodes, size_t edges) {
+  static ChartAnswer answer;
+  return try_earlier(nodes, edges, &answer) == 0;
+}
+static int count_sizes(void) {
+  int k = 0;
+  while (k < SIZES && earlier_takes(node_counts[k], node_counts[k] * EDGES_A_NODE)) k++;
+  return k;
+}
+// The rows of two nodes are one entry where they are bytes, and the next keeps its content.
+static int earlier_gives_bytes(void) {
+  static ChartAnswer answer;
+  return try_earlier(2, 1, &answer) == 0 && answer.rows[1] == UINT16_MAX;
+}
+// The same rows in entries of 16 bits. What no call wrote is all ones in either width, and no row that fits a byte is: those of the tables
+// that such a build takes are below it.
+static void widen_rows(ChartAnswer *answer) {
+  uint8_t bytes[YUVATONDRO_MAX_STEPS];
+  memcpy(bytes, answer->rows, sizeof bytes);
+  for (size_t v = 0; v < YUVATONDRO_MAX_STEPS; v++) answer->rows[v] = bytes[v] == UINT8_MAX ? UINT16_MAX : bytes[v];
+}
+
+// ---- tables ----
+
 static Pairs rows[SIZES], charts[SIZES], searched;
 static char titles[2][SIZES][MAX_NAME];
 
@@ -32,6 +72,7 @@ static void open_pairs(Pairs *p, const char *title, Call before, Call now) {
   p->way[1] = "now";
   p->call[0] = before;
   p->call[1] = now;
+  p->tidy[0] = earlier_gives_bytes() ? widen_rows : NULL;
 }
 static void add_pair(Pairs *p, const Instance *inst) {
   Pair *pair = next_pair(p, inst->name);
@@ -39,7 +80,7 @@ static void add_pair(Pairs *p, const Instance *inst) {
 }
 static void make_size(int k) {
   static Instance inst;
-  size_t nodes = (size_t)SMALLEST << k, edges = nodes * EDGES_A_NODE;
+  size_t nodes = node_counts[k], edges = nodes * EDGES_A_NODE;
   snprintf(titles[0][k], MAX_NAME, "Rows %zu/%zu", nodes, edges);
   snprintf(titles[1][k], MAX_NAME, "Charts %zu/%zu", nodes, edges);
   open_pairs(&rows[k], titles[0][k], rows_before, rows_now);
@@ -58,31 +99,34 @@ static int read_stored(int files, char **paths) {
   open_pairs(&searched, "Rows, searched", rows_before, rows_now);
   for (int k = 0; k < files; k++) {
     if (!read_instance(&inst, paths[k])) return 0;
-    add_pair(&searched, &inst);
+    if (earlier_takes(inst.nodes, inst.edges)) add_pair(&searched, &inst);
   }
   return 1;
 }
-static void run_once(void) {
-  run_pairs_once(&rows[SIZES - 1]);
-  run_pairs_once(&charts[SIZES - 1]);
-  printf("%zu\n", rows[SIZES - 1].count);
+
+static void run_once(int last) {
+  run_pairs_once(&rows[last]);
+  run_pairs_once(&charts[last]);
+  printf("%zu %zu/%zu\n", rows[last].count, node_counts[last], node_counts[last] * EDGES_A_NODE);
 }
-static void run_all(void) {
-  for (int k = 0; k < SIZES; k++) run_pairs(&rows[k]);
+static void run_all(int count) {
+  printf("The earlier build hands out rows as %s and takes tables of up to %zu steps of those measured here.\n",
+         earlier_gives_bytes() ? "bytes" : "numbers of 16 bits", node_counts[count - 1]);
+  for (int k = 0; k < count; k++) run_pairs(&rows[k]);
   if (searched.count > 0) run_pairs(&searched);
-  for (int k = 0; k < SIZES; k++) run_pairs(&charts[k]);
-  for (int k = 0; k < SIZES; k++) print_means(&rows[k]);
+  for (int k = 0; k < count; k++) run_pairs(&charts[k]);
+  for (int k = 0; k < count; k++) print_means(&rows[k]);
   if (searched.count > 0) print_means(&searched);
-  for (int k = 0; k < SIZES; k++) print_means(&charts[k]);
+  for (int k = 0; k < count; k++) print_means(&charts[k]);
   printf("Both builds gave the same answer in every round.\n");
 }
 
 int main(int argc, char **argv) {
-  int once = argc > 1 && strcmp(argv[1], "once") == 0, files = argc - 1 - once;
-  if (files > MAX_PAIRS || shape_count() * SEEDS > MAX_PAIRS) return 2;
-  for (int k = 0; k < SIZES; k++) make_size(k);
+  int once = argc > 1 && strcmp(argv[1], "once") == 0, files = argc - 1 - once, count = count_sizes();
+  if (count == 0 || files > MAX_PAIRS || shape_count() * SEEDS > MAX_PAIRS) return 2;
+  for (int k = 0; k < count; k++) make_size(k);
   if (!read_stored(files, argv + 1 + once)) return 2;
-  if (once) run_once();
-  else run_all();
+  if (once) run_once(count - 1);
+  else run_all(count);
   return 0;
 }

@@ -23,6 +23,7 @@ static double run_way(const Pairs *p, const Pair *pair, int way, ChartAnswer *an
   p->call[way](pair->table[way], pair->length[way], answer);
   double end = now_us();
   if (answer->refusal != 0) stop(p, pair, p->way[way], answer->refusal);
+  if (p->tidy[way]) p->tidy[way](answer);
   return end - start;
 }
 // Which way goes first changes from round to round.
