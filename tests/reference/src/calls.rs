@@ -28,16 +28,16 @@ pub fn name(table: &Result<Table, Refusal>, step: usize) -> Result<u64, Refusal>
     Ok((step.name_len as u64) << 8 | (step.name_start as u64) << 16)
 }
 
-pub fn rows(bytes: &[u8], buffer: &mut [u8]) -> u64 {
+pub fn rows(bytes: &[u8], buffer: &mut [u16]) -> u64 {
     let rows = read_table(bytes).and_then(|table| rows_of_table(&table));
     pack(hand_out_rows(&rows, buffer))
 }
 
-pub fn records(steps: usize, records: &[Record], buffer: &mut [u8]) -> u64 {
+pub fn records(steps: usize, records: &[Record], buffer: &mut [u16]) -> u64 {
     pack(hand_out_rows(&rows_of_records(steps, records), buffer))
 }
 
-pub fn chart(bytes: &[u8], rows: &mut [u8], order: &mut [u16]) -> u64 {
+pub fn chart(bytes: &[u8], rows: &mut [u16], order: &mut [u16]) -> u64 {
     let chart = read_table(bytes).and_then(|table| draw_chart(&table));
     pack(hand_out_chart(&chart, rows, order))
 }
@@ -57,24 +57,24 @@ fn write_read(bytes: &[u8], table: Result<Table, Refusal>, buffer: &mut [u8]) ->
 }
 
 /// A buffer is looked at only when nothing else is wrong, and written only when nothing is.
-pub fn hand_out_rows(rows: &Result<Vec<usize>, Refusal>, buffer: &mut [u8]) -> Result<u64, Refusal> {
+pub fn hand_out_rows(rows: &Result<Vec<usize>, Refusal>, buffer: &mut [u16]) -> Result<u64, Refusal> {
     let rows = rows.as_ref().map_err(|&refusal| refusal)?;
     if buffer.len() < rows.len() {
         return Err(Refusal::ShortBuffer);
     }
     for (entry, &row) in buffer.iter_mut().zip(rows) {
-        *entry = row as u8;
+        *entry = row as u16;
     }
     Ok(0)
 }
 
-pub fn hand_out_chart(chart: &Result<Chart, Refusal>, rows: &mut [u8], order: &mut [u16]) -> Result<u64, Refusal> {
+pub fn hand_out_chart(chart: &Result<Chart, Refusal>, rows: &mut [u16], order: &mut [u16]) -> Result<u64, Refusal> {
     let chart = chart.as_ref().map_err(|&refusal| refusal)?;
     if rows.len() < chart.rows.len() || order.len() < chart.point_count() {
         return Err(Refusal::ShortBuffer);
     }
     for (entry, &row) in rows.iter_mut().zip(&chart.rows) {
-        *entry = row as u8;
+        *entry = row as u16;
     }
     for (entry, point) in order.iter_mut().zip(chart.listed_order()) {
         *entry = point;

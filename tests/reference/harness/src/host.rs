@@ -7,20 +7,20 @@ mod linked {
         #[cfg(host_name)]
         pub fn yuvatondro_name(table: *const u8, table_len: usize, step: usize) -> u64;
         #[cfg(host_rows)]
-        pub fn yuvatondro_rows(table: *const u8, table_len: usize, rows: *mut u8, rows_len: usize) -> u64;
+        pub fn yuvatondro_rows(table: *const u8, table_len: usize, rows: *mut u16, rows_len: usize) -> u64;
         #[cfg(host_records)]
         pub fn yuvatondro_records(
             steps: usize,
             records: *const usize,
             numbers: usize,
-            rows: *mut u8,
+            rows: *mut u16,
             rows_len: usize,
         ) -> u64;
         #[cfg(host_chart)]
         pub fn yuvatondro_chart(
             table: *const u8,
             table_len: usize,
-            rows: *mut u8,
+            rows: *mut u16,
             rows_len: usize,
             order: *mut u16,
             order_len: usize,
@@ -59,6 +59,7 @@ pub fn exported() -> Calls {
 /// A lent stretch as C hands it over.
 pub type Bytes = (*const u8, usize);
 pub type BytesMut = (*mut u8, usize);
+pub type EntriesMut = (*mut u16, usize);
 
 #[allow(unused_variables)]
 pub fn counts(table: Bytes) -> u64 {
@@ -77,7 +78,7 @@ pub fn name(table: Bytes, step: usize) -> u64 {
 }
 
 #[allow(unused_variables)]
-pub fn rows(table: Bytes, rows: BytesMut) -> u64 {
+pub fn rows(table: Bytes, rows: EntriesMut) -> u64 {
     #[cfg(host_rows)]
     return unsafe { linked::yuvatondro_rows(table.0, table.1, rows.0, rows.1) };
     #[cfg(not(host_rows))]
@@ -85,7 +86,7 @@ pub fn rows(table: Bytes, rows: BytesMut) -> u64 {
 }
 
 #[allow(unused_variables)]
-pub fn records(steps: usize, numbers: (*const usize, usize), rows: BytesMut) -> u64 {
+pub fn records(steps: usize, numbers: (*const usize, usize), rows: EntriesMut) -> u64 {
     #[cfg(host_records)]
     return unsafe { linked::yuvatondro_records(steps, numbers.0, numbers.1, rows.0, rows.1) };
     #[cfg(not(host_records))]
@@ -93,7 +94,7 @@ pub fn records(steps: usize, numbers: (*const usize, usize), rows: BytesMut) -> 
 }
 
 #[allow(unused_variables)]
-pub fn chart(table: Bytes, rows: BytesMut, order: (*mut u16, usize)) -> u64 {
+pub fn chart(table: Bytes, rows: EntriesMut, order: EntriesMut) -> u64 {
     #[cfg(host_chart)]
     return unsafe { linked::yuvatondro_chart(table.0, table.1, rows.0, rows.1, order.0, order.1) };
     #[cfg(not(host_chart))]

@@ -3,6 +3,8 @@
 mod printed;
 mod written;
 
+use std::fmt::Display;
+
 use reference::calls::{counts, hand_out_chart, hand_out_rows, name, pack};
 use reference::chart::{draw_chart, Chart};
 use reference::random::Random;
@@ -14,6 +16,7 @@ use reference::table::read_table;
 use crate::host::{self, Calls, CALLS, CHART, COUNTS, NAME, RECORDS, ROWS};
 use crate::lent::Arena;
 use crate::program::Programs;
+use crate::shapes::STEPS;
 use crate::tally::Tally;
 use crate::watch;
 
@@ -153,7 +156,7 @@ impl Judge {
 
     fn odd_step(&mut self, steps: usize) -> usize {
         let inside = self.random.below(steps.max(1));
-        self.random.pick(&[inside, inside, inside + 256, inside + 65536, inside + (1 << 32), 64, usize::MAX])
+        self.random.pick(&[inside, inside, inside + 256, inside + 65536, inside + (1 << 32), STEPS, usize::MAX])
     }
 
     /// Some length other than the one needed, for the most part near it.
@@ -177,19 +180,21 @@ impl Judge {
         (0..len).map(|_| self.random.next() as u8).collect()
     }
 
+    fn filled_entries(&mut self, len: usize) -> Vec<u16> {
+        (0..len).map(|_| self.random.next() as u16).collect()
+    }
+
     fn compare_rows(&mut self, bytes: &[u8], rows: &Result<Vec<usize>, Refusal>, len: usize) {
-        let filling = self.filling(len);
+        let filling = self.filled_entries(len);
         let mut due = filling.clone();
         let expected = pack(hand_out_rows(rows, &mut due));
         self.run_on_table(ROWS, bytes, expected, Some((filling, due)), None);
     }
 
     fn compare_chart(&mut self, bytes: &[u8], chart: &Result<Chart, Refusal>, rows_len: usize, order_len: usize) {
-        let (rows, order) = (self.filling(rows_len), self.filling(2 * order_len));
-        let mut due_rows = rows.clone();
-        let mut entries: Vec<u16> = order.chunks(2).map(|pair| u16::from_ne_bytes([pair[0], pair[1]])).collect();
-        let expected = pack(hand_out_chart(chart, &mut due_rows, &mut entries));
-        let due_order = entries.iter().flat_map(|entry| entry.to_ne_bytes()).collect();
+        let (rows, order) = (self.filled_entries(rows_len), self.filled_entries(order_len));
+        let (mut due_rows, mut due_order) = (rows.clone(), order.clone());
+        let expected = pack(hand_out_chart(chart, &mut due_rows, &mut due_order));
         self.run_on_table(CHART, bytes, expected, Some((rows, due_rows)), Some((order, due_order)));
     }
 
@@ -208,8 +213,8 @@ impl Judge {
         let table = (self.table.place(bytes, flush, 1) as *const u8, bytes.len());
         let (rows_filling, rows_due) = rows.unwrap_or_default();
         let (order_filling, order_due) = order.unwrap_or_default();
-        let lent_rows = (self.rows.place(&rows_filling, flush, 1), rows_filling.len());
-        let lent_order = (self.order.place(&order_filling, flush, 2) as *mut u16, order_filling.len() / 2);
+        let lent_rows = self.rows.place_entries(&rows_filling, flush);
+        let lent_order = self.order.place_entries(&order_filling, flush);
         let (answer, took) = watch::timed(call, || match call {
             COUNTS => host::counts(table),
             ROWS => host::rows(table, lent_rows),
@@ -219,25 +224,25 @@ impl Judge {
         let fault = self
             .input_fault(bytes)
             .or_else(|| answer_fault(expected, answer))
-            .or_else(|| buffer_fault("rows", &mut self.rows, &rows_due))
-            .or_else(|| buffer_fault("order", &mut self.order, &order_due));
+            .or_else(|| entries_fault("rows", &mut self.rows, &rows_due))
+            .or_else(|| entries_fault("order", &mut self.order, &order_due));
         let lens = (lent_rows.1, lent_order.1);
         self.settle(call, fault, || format!("buffers {lens:?}, table {}", hex(bytes)));
     }
 
     fn compare_records(&mut self, steps: usize, records: &[Record], rows: &Result<Vec<usize>, Refusal>, len: usize) {
-        let filling = self.filling(len);
+        let filling = self.filled_entries(len);
         let mut due = filling.clone();
         let expected = pack(hand_out_rows(rows, &mut due));
         let numbers: Vec<u8> = records.iter().flatten().flat_map(|number| number.to_ne_bytes()).collect();
         let flush = self.random.one_in(2);
         let lent_numbers = (self.numbers.place(&numbers, flush, 8) as *const usize, records.len() * 4);
-        let lent_rows = (self.rows.place(&filling, flush, 1), len);
+        let lent_rows = self.rows.place_entries(&filling, flush);
         let (answer, took) = watch::timed(RECORDS, || host::records(steps, lent_numbers, lent_rows));
         self.tally.note_call(RECORDS, expected, took, self.place);
         let fault = buffer_fault("records", &mut self.numbers, &numbers)
             .or_else(|| answer_fault(expected, answer))
-            .or_else(|| buffer_fault("rows", &mut self.rows, &due));
+            .or_else(|| entries_fault("rows", &mut self.rows, &due));
         self.settle(RECORDS, fault, || format!("steps {steps}, buffer {len}, records {records:?}"));
     }
 
@@ -261,19 +266,28 @@ impl Judge {
 }
 
 /// What a buffer holds before the call and what it has to hold after it.
-type Lending = Option<(Vec<u8>, Vec<u8>)>;
+type Lending = Option<(Vec<u16>, Vec<u16>)>;
 
 fn answer_fault(expected: u64, answer: u64) -> Option<String> {
     (answer != expected).then(|| format!("answer {answer:#x} for {expected:#x}"))
 }
 
 fn buffer_fault(what: &str, arena: &mut Arena, due: &[u8]) -> Option<String> {
-    if !arena.guards_hold() {
-        return Some(format!("bytes beside {what} written"));
-    }
-    let content = arena.content();
+    guard_fault(what, arena).or_else(|| first_fault(what, "byte", arena.content(), due))
+}
+
+/// The same for entries of 16 bits.
+fn entries_fault(what: &str, arena: &mut Arena, due: &[u16]) -> Option<String> {
+    guard_fault(what, arena).or_else(|| first_fault(what, "entry", &arena.entries(), due))
+}
+
+fn guard_fault(what: &str, arena: &mut Arena) -> Option<String> {
+    (!arena.guards_hold()).then(|| format!("bytes beside {what} written"))
+}
+
+fn first_fault<T: PartialEq + Display>(what: &str, item: &str, content: &[T], due: &[T]) -> Option<String> {
     let at = (0..due.len()).find(|&at| content[at] != due[at])?;
-    Some(format!("{what} byte {at} is {} for {}", content[at], due[at]))
+    Some(format!("{what} {item} {at} is {} for {}", content[at], due[at]))
 }
 
 fn hex(bytes: &[u8]) -> String {

@@ -53,6 +53,17 @@ impl Arena {
         unsafe { self.start.add(self.at) }
     }
 
+    /// Places entries of 16 bits, and returns where and how many.
+    pub fn place_entries(&mut self, entries: &[u16], flush: bool) -> (*mut u16, usize) {
+        let content: Vec<u8> = entries.iter().flat_map(|entry| entry.to_ne_bytes()).collect();
+        (self.place(&content, flush, align_of::<u16>()) as *mut u16, entries.len())
+    }
+
+    /// What was placed as entries, as it stands now.
+    pub fn entries(&mut self) -> Vec<u16> {
+        self.content().chunks_exact(size_of::<u16>()).map(|pair| u16::from_ne_bytes([pair[0], pair[1]])).collect()
+    }
+
     pub fn content(&mut self) -> &[u8] {
         let (at, len) = (self.at, self.len);
         &self.memory()[at..at + len]

@@ -30,7 +30,7 @@ pub fn name(table: &[u8], step: usize) -> u64 {
     calls::pack(if on("name-off") { answer.map(|packed| packed + (1 << 16)) } else { answer })
 }
 
-pub fn rows(table: &[u8], buffer: &mut [u8]) -> u64 {
+pub fn rows(table: &[u8], buffer: &mut [u16]) -> u64 {
     let rows = read(table, on("old-rule-rows")).and_then(|table| {
         if on("short-first") && buffer.len() < table.steps.len() {
             return Err(Refusal::ShortBuffer);
@@ -45,11 +45,11 @@ pub fn rows(table: &[u8], buffer: &mut [u8]) -> u64 {
     calls::pack(hand_out_rows(&rows, buffer))
 }
 
-pub fn records(steps: usize, records: &[Record], buffer: &mut [u8]) -> u64 {
+pub fn records(steps: usize, records: &[Record], buffer: &mut [u16]) -> u64 {
     calls::pack(hand_out_rows(&wrong_rows::records(steps, records), buffer))
 }
 
-fn hand_out_rows(rows: &Result<Vec<usize>, Refusal>, buffer: &mut [u8]) -> Result<u64, Refusal> {
+fn hand_out_rows(rows: &Result<Vec<usize>, Refusal>, buffer: &mut [u16]) -> Result<u64, Refusal> {
     if on("never-written") {
         return calls::hand_out_rows(rows, &mut buffer.to_vec());
     }
@@ -73,7 +73,7 @@ fn hand_out_rows(rows: &Result<Vec<usize>, Refusal>, buffer: &mut [u8]) -> Resul
     Ok(answer)
 }
 
-pub fn chart(table: &[u8], rows: &mut [u8], order: &mut [u16]) -> u64 {
+pub fn chart(table: &[u8], rows: &mut [u16], order: &mut [u16]) -> u64 {
     let chart = read(table, on("old-rule-chart")).and_then(|table| {
         let drawn = draw(&table);
         let few = rows.len() < table.steps.len();
@@ -86,7 +86,7 @@ pub fn chart(table: &[u8], rows: &mut [u8], order: &mut [u16]) -> u64 {
     calls::pack(hand_out_chart(chart, rows, order))
 }
 
-fn hand_out_chart(chart: Result<Chart, Refusal>, rows: &mut [u8], order: &mut [u16]) -> Result<u64, Refusal> {
+fn hand_out_chart(chart: Result<Chart, Refusal>, rows: &mut [u16], order: &mut [u16]) -> Result<u64, Refusal> {
     if on("never-written") {
         return calls::hand_out_chart(&chart, &mut rows.to_vec(), &mut order.to_vec());
     }

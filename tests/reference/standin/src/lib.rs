@@ -25,7 +25,7 @@ pub unsafe extern "C" fn yuvatondro_name(table: *const u8, table_len: usize, ste
 }
 
 #[no_mangle]
-pub unsafe extern "C" fn yuvatondro_rows(table: *const u8, table_len: usize, rows: *mut u8, rows_len: usize) -> u64 {
+pub unsafe extern "C" fn yuvatondro_rows(table: *const u8, table_len: usize, rows: *mut u16, rows_len: usize) -> u64 {
     unsafe { answers::rows(from_raw_parts(table, table_len), from_raw_parts_mut(rows, rows_len)) }
 }
 
@@ -34,7 +34,7 @@ pub unsafe extern "C" fn yuvatondro_records(
     steps: usize,
     records: *const usize,
     numbers: usize,
-    rows: *mut u8,
+    rows: *mut u16,
     rows_len: usize,
 ) -> u64 {
     let records = unsafe { from_raw_parts(records as *const [usize; 4], numbers / 4) };
@@ -45,7 +45,7 @@ pub unsafe extern "C" fn yuvatondro_records(
 pub unsafe extern "C" fn yuvatondro_chart(
     table: *const u8,
     table_len: usize,
-    rows: *mut u8,
+    rows: *mut u16,
     rows_len: usize,
     order: *mut u16,
     order_len: usize,

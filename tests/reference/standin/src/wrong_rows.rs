@@ -63,7 +63,7 @@ fn wrong_rows(edges: &[Edge], mut rows: Vec<usize>) -> Vec<usize> {
             std::hint::spin_loop();
         }
     } else if on("rows-not-least") {
-        rows.iter().map(|&row| (2 * row).min(255)).collect()
+        rows.iter().map(|&row| 2 * row).collect()
     } else if on("rows-least-not-lowest") {
         let turned: Vec<Edge> = edges.iter().map(|edge| Edge { from: edge.to, to: edge.from, ..*edge }).collect();
         let last = row_count(&rows).saturating_sub(1);
