@@ -3,8 +3,8 @@
 use crate::order::{find_order, Order};
 use crate::points::{count_points, place_points, Layout, MAX_POINTS};
 use crate::refusal::Refusal;
-use crate::rows::{find_rows, total};
-use crate::soft::settle;
+use crate::rows::total;
+use crate::soft::{place_table, Placed};
 use crate::table::Table;
 
 pub struct Chart {
@@ -31,8 +31,10 @@ impl Chart {
 }
 
 pub fn draw_chart(table: &Table) -> Result<Chart, Refusal> {
-    let settled = settle(table.steps.len(), &table.edges)?;
-    let rows = find_rows(table.steps.len(), &settled.edges);
+    draw_placed(place_table(table)?)
+}
+
+pub fn draw_placed(Placed { settled, rows }: Placed) -> Result<Chart, Refusal> {
     if count_points(&settled.edges, &rows) > MAX_POINTS {
         return Err(Refusal::TooManyPoints);
     }

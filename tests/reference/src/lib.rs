@@ -1,5 +1,6 @@
 //! An independent reference for the layered-drawing engine: plain and slow where that is clearer.
 
+pub mod bounds;
 pub mod calls;
 pub mod certificate;
 pub mod chart;

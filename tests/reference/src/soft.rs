@@ -32,9 +32,21 @@ pub fn settle(steps: usize, edges: &[TableEdge]) -> Result<Settled, Refusal> {
     Ok(settled)
 }
 
-pub fn rows_of_table(table: &Table) -> Result<Vec<usize>, Refusal> {
+/// A table's edges as kept or turned, and the row of each step.
+pub struct Placed {
+    pub settled: Settled,
+    pub rows: Vec<usize>,
+}
+
+pub fn place_table(table: &Table) -> Result<Placed, Refusal> {
     let steps = table.steps.len();
-    Ok(find_rows(steps, &settle(steps, &table.edges)?.edges))
+    let settled = settle(steps, &table.edges)?;
+    let rows = find_rows(steps, &settled.edges);
+    Ok(Placed { settled, rows })
+}
+
+pub fn rows_of_table(table: &Table) -> Result<Vec<usize>, Refusal> {
+    place_table(table).map(|placed| placed.rows)
 }
 
 pub fn must_edges(edges: &[TableEdge]) -> Vec<Edge> {

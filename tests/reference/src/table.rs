@@ -82,17 +82,20 @@ pub const LIMITS: Limits = Limits {
     number_bytes: 3,
     rule: fewest_bytes,
     edition: 1..=2,
-    steps: 64,
+    steps: 96,
     kinds: 3,
     tolerance: 0..=9999,
     minutes: 1..=240,
     name_len: 1..=16,
     name_byte: 0x21..=0x7e,
-    edges: 192,
+    edges: 288,
     gap: 1..=4,
     weight: 0..=255,
     firmness: 0..=1,
 };
+
+/// The limits up to version 1.3. A table within them reads as it did then.
+pub const OLD_LIMITS: Limits = Limits { steps: 64, edges: 192, ..LIMITS };
 
 pub fn read_table(bytes: &[u8]) -> Result<Table, Refusal> {
     read_within(bytes, &LIMITS)

@@ -4,13 +4,14 @@
 use crate::calls::hand_out_rows;
 use crate::records::{rows_of_records, Record};
 use crate::refusal::Refusal;
+use crate::table::LIMITS;
 
 const WORD: usize = 8;
 const FIELDS: usize = 4;
 /// Words before the records.
 const HEAD: usize = 2;
 /// Records beyond these are not read: the list is refused anyway.
-pub const MAX_RECORDS: usize = 200;
+pub const MAX_RECORDS: usize = LIMITS.edges as usize + 8;
 pub const MAX_ENTRIES: usize = 255;
 
 pub fn write_words(steps: usize, entries: usize, records: &[Record]) -> Vec<u8> {

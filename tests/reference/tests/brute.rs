@@ -3,7 +3,7 @@
 use reference::loops::lowest_on_loop;
 use reference::random::Random;
 use reference::rows::find_rows;
-use reference::table::Edge;
+use reference::table::{Edge, LIMITS};
 
 /// Over all lists with rows up to the bound: the least total, and at each step the least row
 /// among lists of that total.
@@ -103,8 +103,9 @@ fn walks_back(steps: usize, edges: &[Edge], step: usize) -> bool {
 #[test]
 fn loops() {
     let mut random = Random::new(7);
-    for _ in 0..2000 {
-        let steps = random.between(2, 9);
+    for table in 0..2000 {
+        let most = if table % 100 == 0 { LIMITS.steps as usize } else { 9 };
+        let steps = random.between(2, most);
         let count = random.below(steps + 3);
         let edges: Vec<Edge> = (0..count)
             .map(|_| {

@@ -5,8 +5,11 @@ use reference::program::{refusal_of, MAX_INPUT};
 use reference::random::Random;
 use reference::refusal::Refusal;
 use reference::shortest::said;
-use reference::table::{fewest_bytes, read_stored, read_table};
+use reference::table::{fewest_bytes, read_stored, read_table, LIMITS};
 use reference::writer::{bytes_of, short};
+
+/// One step too many, in a byte.
+const TOO_MANY: u8 = LIMITS.steps as u8 + 1;
 
 /// Of every number, the one form that is taken is the one in its fewest bytes.
 #[test]
@@ -39,8 +42,8 @@ fn judged_at_the_last_byte() {
         (&[0x81, 0, 0, 0], 2, 0),
         (&[1, 0, 0], 0, 0),
         (&[1, 0, 0, 0], 10, 10),
-        (&[1, 0xc1, 0], 2, 4),
-        (&[1, 0x41, 0x80, 0], 4, 4),
+        (&[1, 0x80 | TOO_MANY, 0], 2, 4),
+        (&[1, TOO_MANY, 0x80, 0], 4, 4),
     ];
     let number = |read: Result<_, Refusal>| read.err().map_or(0, Refusal::number);
     for (bytes, today, before) in cases {
@@ -102,14 +105,14 @@ fn a_refusal_is_no_table() {
     for line in ["r", "refused 1\n", "refused 15\n"] {
         assert_eq!(read_stored(line.as_bytes()), Err(Refusal::Edition));
     }
-    assert_eq!((refusal_of(&convert_table(&[1, 0x41])), refusal_of(&convert_table(&[2, 0, 0]))), (4, 0));
+    assert_eq!((refusal_of(&convert_table(&[1, TOO_MANY])), refusal_of(&convert_table(&[2, 0, 0]))), (4, 0));
 }
 
 /// Of a longer input the first bytes are judged, which makes no difference.
 #[test]
 fn long_inputs() {
     for (start, filling, due) in
-        [(vec![0x81, 0, 0, 0], 0, 10), (vec![1, 0x40], 1, 7), (vec![], 0x80, 2), (vec![2], 0, 10)]
+        [(vec![0x81, 0, 0, 0], 0, 10), (vec![1, TOO_MANY - 1], 1, 7), (vec![], 0x80, 2), (vec![2], 0, 10)]
     {
         for len in [MAX_INPUT - 1, MAX_INPUT, MAX_INPUT + 1, 3 * MAX_INPUT] {
             let mut input = start.clone();

@@ -5,7 +5,7 @@ use reference::chart::draw_chart;
 use reference::listing::print_chart;
 use reference::rows::total;
 use reference::soft::must_edges;
-use reference::table::{read_table, Edge};
+use reference::table::{read_table, Edge, LIMITS};
 use reference::words::{print_words, write_words};
 
 const SAMPLE: [u8; 47] = [
@@ -40,14 +40,16 @@ fn sample_by_longest_paths_totals_18() {
 
 #[test]
 fn starred_cases() {
-    let cases: [(&[u8], &str); 11] = [
+    let cases: [(&[u8], &str); 13] = [
         (&[1, 0, 0], "chart 0 0 0 0 0\n"),
         (&[], "refused 1\n"),
         (&[2], "refused 1\n"),
         (&[0x81, 0, 0, 0], "refused 2\n"),
         (&[0x80, 0x80, 0x80], "refused 2\n"),
         (&[1, 0x40], "refused 1\n"),
-        (&[1, 0x41], "refused 4\n"),
+        (&[1, 0x41], "refused 1\n"),
+        (&[1, 0x60], "refused 1\n"),
+        (&[1, 0x61], "refused 4\n"),
         (&[1, 0, 0, 0], "refused 10\n"),
         (&[1, 1, 0, 1, 0x41, 1, 0, 0], "refused 9\n"),
         (&[1, 2, 0, 1, 0x41, 0, 1, 0x42, 2, 0, 1, 1, 1, 1, 0, 1, 1], "refused 11 0\n"),
@@ -74,15 +76,17 @@ fn packed_answers_and_buffers() {
 
 #[test]
 fn records_judge_ends_before_ranges() {
+    const STEPS: usize = LIMITS.steps as usize;
+    const EDGES: usize = LIMITS.edges as usize;
     let mut rows = [9; 3];
-    assert_eq!(calls::records(65, &[[0, 0, 0, 0]], &mut rows), 4);
-    assert_eq!(calls::records(2, &[[0, 1, 1, 1]; 193], &mut rows), 8);
+    assert_eq!(calls::records(STEPS + 1, &[[0, 0, 0, 0]; EDGES + 1], &mut rows), 4);
+    assert_eq!(calls::records(2, &[[0, 0, 1, 1]; EDGES + 1], &mut rows), 8);
     assert_eq!(calls::records(2, &[[0, 0, 9, 1]], &mut rows), 9);
     assert_eq!(calls::records(2, &[[0, 1, 5, 1], [0, 0, 1, 1]], &mut rows), 6);
     assert_eq!(calls::records(3, &[[1, 2, 1, 1], [2, 1, 1, 1]], &mut rows), 11 | 1 << 8);
     assert_eq!(calls::records(4, &[], &mut rows), 13);
     assert_eq!(rows, [9; 3]);
-    assert_eq!(calls::records(2, &[[1, 0, 4, 0]; 192], &mut rows), 0);
+    assert_eq!(calls::records(2, &[[1, 0, 4, 0]; EDGES], &mut rows), 0);
     assert_eq!(rows, [4, 0, 9]);
 }
 

@@ -2,11 +2,13 @@
 
 use std::collections::HashMap;
 
+use reference::bounds::{LONGEST, LONGEST_STORED};
 use reference::calls;
 use reference::listing::print_chart;
 use reference::refusal::Refusal;
-use reference::shortest::{said, shortest, Said};
-use reference::table::{read_stored, read_table, Edge, Kind, TableEdge};
+use reference::shortest::{draft_of, said, shortest, Said};
+use reference::table::{read_stored, read_table, Edge, Kind, TableEdge, LIMITS};
+use reference::writer::write_widened;
 
 mod stored;
 
@@ -105,13 +107,17 @@ fn all_spellings_with_edges() {
     );
 }
 
-/// The bytes count 1 + 1 + 64 (1 + 2 + 1 + 16) + 2 + 192 (1 + 1 + 1 + 2 + 1).
+/// As long as tables can be, in the fewest bytes and in three bytes a number.
 #[test]
-fn the_longest_shortest_form() {
-    let steps = vec![(Kind::Adjustment { tolerance: 128 }, vec![b'~'; 16]); 64];
-    let edge = |number: usize| Edge { from: number % 63, to: 63, gap: 4, weight: 128 };
-    let edges = (0..192).map(|number| TableEdge { edge: edge(number), soft: number == 191 }).collect();
-    assert_eq!(shortest(&Said { steps, edges }).len(), 2436);
+fn the_longest_tables() {
+    let (last_step, last_edge) = (LIMITS.steps as usize - 1, LIMITS.edges as usize - 1);
+    let steps = vec![(Kind::Adjustment { tolerance: 128 }, vec![b'~'; 16]); last_step + 1];
+    let edge = |number: usize| Edge { from: number % last_step, to: last_step, gap: 4, weight: 128 };
+    let edges = (0..=last_edge).map(|number| TableEdge { edge: edge(number), soft: number == last_edge }).collect();
+    let said = Said { steps, edges };
+    let (short, long) = (shortest(&said), write_widened(&draft_of(&said, true), || 3));
+    assert_eq!((short.len(), long.len()), (LONGEST, LONGEST_STORED));
+    assert_eq!((shortest_of(&short), shortest_of(&long)), (short.clone(), short));
 }
 
 #[test]
@@ -119,12 +125,13 @@ fn answers_and_buffers() {
     let stored = [0x82, 0, 1, 0x80, 0, 1, 0x41, 0];
     let table = [2, 1, 0, 1, 0x41, 0];
     let written = [1, 1, 0, 1, 0x41, 0];
+    let too_many = LIMITS.steps as u8 + 1;
     let mut buffer = [9; 8];
     for short in 0..6 {
         assert_eq!(calls::write(&table, &mut buffer[..short]), 13);
         assert_eq!(calls::convert(&stored, &mut buffer[..short]), 13);
-        assert_eq!(calls::write(&[1, 0x41], &mut buffer[..short]), 4);
-        assert_eq!(calls::convert(&[1, 0x41], &mut buffer[..short]), 4);
+        assert_eq!(calls::write(&[1, too_many], &mut buffer[..short]), 4);
+        assert_eq!(calls::convert(&[1, too_many], &mut buffer[..short]), 4);
     }
     assert_eq!(calls::write(&stored, &mut buffer), 2);
     assert_eq!(buffer, [9; 8]);
@@ -168,7 +175,7 @@ fn stored_shortest_forms() {
 fn check_stored(lines: &str, write: fn(&[u8], &mut [u8]) -> u64) {
     let mut met = 0;
     for (table, due) in stored::read_lines(lines) {
-        let mut buffer = [0; 2436];
+        let mut buffer = [0; LONGEST];
         let answer = write(&table, &mut buffer);
         let bytes = buffer[..(answer >> 8) as usize].iter().map(|byte| format!(" {byte:02X}"));
         let line = if answer & 0xff == 0 {

@@ -8,7 +8,7 @@ use reference::random::Random;
 use reference::records::rows_of_edges;
 use reference::refusal::Refusal;
 use reference::soft::{must_edges, rows_of_table, settle, turn, Settled};
-use reference::table::{read_table, Edge, Kind, TableEdge};
+use reference::table::{read_table, Edge, Kind, TableEdge, LIMITS};
 use reference::writer::{write_table, Draft};
 
 mod stored;
@@ -104,7 +104,8 @@ fn turned_edges_would_close_a_loop() {
     });
     let mut random = Random::new(1);
     for _ in 0..3000 {
-        let (steps, soft_in) = (random.between(2, 20), random.between(2, 40));
+        let most = random.pick(&[20, 20, 20, LIMITS.steps as usize]);
+        let (steps, soft_in) = (random.between(2, most), random.between(2, 40));
         let edges = random_edges(&mut random, steps, soft_in);
         if let Ok(settled) = settle(steps, &edges) {
             check_settled(steps, &edges, &settled);

@@ -1,10 +1,13 @@
 //! Graphs without loops, as pairs of places: every edge runs from a lower place to a higher one.
 
 use reference::random::Random;
-use reference::table::LIMITS;
+use reference::table::{LIMITS, OLD_LIMITS};
 
 pub const STEPS: usize = LIMITS.steps as usize;
 pub const EDGES: usize = LIMITS.edges as usize;
+/// The limits up to version 1.3.
+pub const OLD_STEPS: usize = OLD_LIMITS.steps as usize;
+pub const OLD_EDGES: usize = OLD_LIMITS.edges as usize;
 
 pub struct Shape {
     pub steps: usize,
@@ -13,13 +16,18 @@ pub struct Shape {
 
 /// Many small graphs, some large ones.
 pub fn any_size(random: &mut Random) -> usize {
-    let most = random.pick(&[4, 8, 8, 16, 32, STEPS]);
+    let most = random.pick(&[4, 8, 8, 16, 32, OLD_STEPS, STEPS]);
     random.between(2, most)
 }
 
 pub fn pair(random: &mut Random, steps: usize) -> (usize, usize) {
     let low = random.below(steps - 1);
     (low, random.between(low + 1, steps - 1))
+}
+
+/// Any edges, so many of them.
+pub fn sized(random: &mut Random, steps: usize, edges: usize) -> Shape {
+    Shape { steps, ends: pairs(random, steps, edges) }
 }
 
 fn pairs(random: &mut Random, steps: usize, count: usize) -> Vec<(usize, usize)> {
@@ -39,7 +47,7 @@ pub fn dense(random: &mut Random) -> Shape {
 }
 
 pub fn full(random: &mut Random) -> Shape {
-    Shape { steps: STEPS, ends: pairs(random, STEPS, EDGES) }
+    sized(random, STEPS, EDGES)
 }
 
 pub fn chain(random: &mut Random) -> Shape {
@@ -52,7 +60,7 @@ pub fn chain(random: &mut Random) -> Shape {
 
 pub fn grid(random: &mut Random) -> Shape {
     let width = random.between(1, 8);
-    let height = random.between(1, 8);
+    let height = random.between(1, STEPS / 8);
     let mut ends = Vec::new();
     for row in 0..height {
         for column in 0..width {
@@ -102,8 +110,8 @@ pub fn star(random: &mut Random) -> Shape {
 }
 
 pub fn bipartite(random: &mut Random) -> Shape {
-    let upper = random.between(1, 13);
-    let lower = random.between(1, 14);
+    let upper = random.between(1, 16);
+    let lower = random.between(1, EDGES / 16);
     let all = (0..upper).flat_map(|up| (0..lower).map(move |low| (up, upper + low)));
     let share = random.between(1, 4);
     Shape { steps: upper + lower, ends: all.filter(|_| share == 4 || random.below(4) < share).collect() }

@@ -1,28 +1,33 @@
 //! The calls, over the stand-in's layers, with the wrong variants of buffers and packing.
 
+use reference::bounds::{longest_table, LONGEST, LONGEST_STORED};
 use reference::calls;
 use reference::chart::Chart;
+use reference::order::{positions, Order};
 use reference::points::{count_points, MAX_POINTS};
 use reference::records::Record;
 use reference::refusal::Refusal;
+use reference::table::{LIMITS, OLD_LIMITS};
 
 use crate::fault::on;
 use crate::wrong_chart::draw;
+use crate::wrong_entries;
 use crate::wrong_rows;
 use crate::wrong_soft;
-use crate::wrong_table::{read, read_leniently};
+use crate::wrong_table::read;
 use crate::wrong_writing::shortest;
 
 pub fn counts(table: &[u8]) -> u64 {
     if on("table-changed") && !table.is_empty() {
         unsafe { (table.as_ptr() as *mut u8).write_volatile(table[0] ^ 1) };
     }
-    calls::pack(calls::counts(&read_leniently(table, on("old-rule-counts"), "counts-no-15")))
+    let answer = calls::counts(&read("counts", table, false));
+    calls::pack(if on("counts-edges-8-bits") { answer.map(|packed| packed & 0xff_ffff) } else { answer })
 }
 
 pub fn name(table: &[u8], step: usize) -> u64 {
-    let read = read_leniently(table, on("old-rule-name"), "name-no-15");
-    if on("name-14-first") && step >= 64 {
+    let read = read("name", table, false);
+    if on("name-14-first") && step >= LIMITS.steps as usize {
         return 14;
     }
     let step = if on("name-step-cut") { step & 0xff } else { step };
@@ -31,7 +36,7 @@ pub fn name(table: &[u8], step: usize) -> u64 {
 }
 
 pub fn rows(table: &[u8], buffer: &mut [u16]) -> u64 {
-    let rows = read(table, on("old-rule-rows")).and_then(|table| {
+    let rows = read("rows", table, false).and_then(|table| {
         if on("short-first") && buffer.len() < table.steps.len() {
             return Err(Refusal::ShortBuffer);
         }
@@ -60,7 +65,11 @@ fn hand_out_rows(rows: &Result<Vec<usize>, Refusal>, buffer: &mut [u16]) -> Resu
     if on("buffer-one-short") && buffer.len() + 1 == used {
         return calls::hand_out_rows(&rows.clone().map(|rows| rows[..used - 1].to_vec()), buffer);
     }
-    let answer = calls::hand_out_rows(rows, buffer)?;
+    let rows = rows.as_ref().map_err(|&refusal| refusal)?;
+    if !wrong_entries::fit(used, buffer.len()) {
+        return Err(Refusal::ShortBuffer);
+    }
+    wrong_entries::put(rows, buffer);
     if on("rest-cleared") {
         buffer[used..].fill(0);
     }
@@ -70,11 +79,11 @@ fn hand_out_rows(rows: &Result<Vec<usize>, Refusal>, buffer: &mut [u16]) -> Resu
     if on("before-buffer") {
         unsafe { buffer.as_mut_ptr().sub(1).write_volatile(0) };
     }
-    Ok(answer)
+    Ok(0)
 }
 
 pub fn chart(table: &[u8], rows: &mut [u16], order: &mut [u16]) -> u64 {
-    let chart = read(table, on("old-rule-chart")).and_then(|table| {
+    let chart = read("chart", table, false).and_then(|table| {
         let drawn = draw(&table);
         let few = rows.len() < table.steps.len();
         match drawn {
@@ -83,6 +92,7 @@ pub fn chart(table: &[u8], rows: &mut [u16], order: &mut [u16]) -> u64 {
             drawn => drawn,
         }
     });
+    let (rows, order) = if on("buffers-exchanged") { (order, rows) } else { (rows, order) };
     calls::pack(hand_out_chart(chart, rows, order))
 }
 
@@ -101,39 +111,55 @@ fn hand_out_chart(chart: Result<Chart, Refusal>, rows: &mut [u16], order: &mut [
         order.copy_from_slice(&whole[..order.len()]);
         return Ok(answer);
     }
-    let answer = calls::hand_out_chart(&chart, rows, order)?;
+    if !wrong_entries::fit(drawn.rows.len(), rows.len()) {
+        return Err(Refusal::ShortBuffer);
+    }
+    let answer = calls::hand_out_chart(&chart, &mut vec![0; drawn.rows.len()], order)?;
+    wrong_entries::put(&drawn.rows, rows);
     if on("rest-cleared") {
         order[points..].fill(0);
     }
-    if on("order-inverse") {
-        for (entry, position) in order.iter_mut().zip(reference::order::positions(&drawn.order)) {
-            *entry = position as u16;
-        }
-    }
+    spoil_order(&drawn.order, order);
     Ok(answer)
+}
+
+/// Other numbers in place of those handed out.
+fn spoil_order(right: &Order, handed_out: &mut [u16]) {
+    let other: Vec<usize> = if on("order-inverse") {
+        positions(right)
+    } else if on("order-row-byte") {
+        let mut rows: Vec<_> = right.iter().enumerate().collect();
+        rows.sort_by_key(|(row, _)| row & 0xff);
+        rows.into_iter().flat_map(|(_, points)| points.clone()).collect()
+    } else {
+        return;
+    };
+    for (entry, number) in handed_out.iter_mut().zip(other) {
+        *entry = number as u16;
+    }
 }
 
 /// No table has fewer bytes.
 const EMPTY: usize = 3;
-/// No shortest form has more.
-const MOST: usize = 2436;
-/// No stored table has more.
-const MOST_STORED: usize = 4489;
 
 pub fn write(table: &[u8], buffer: &mut [u8]) -> u64 {
-    write_read(table, on("old-rule-write"), buffer)
+    write_read("write", table, false, buffer)
 }
 
 pub fn convert(table: &[u8], buffer: &mut [u8]) -> u64 {
-    let looked_at = if on("convert-2436-read") { table.len().min(MOST) } else { table.len() };
-    write_read(&table[..looked_at], !on("convert-new-rule"), buffer)
+    let most = match () {
+        _ if on("convert-shortest-read") => LONGEST,
+        _ if on("convert-old-longest") => longest_table(&OLD_LIMITS, 2, true),
+        _ => table.len(),
+    };
+    write_read("convert", &table[..table.len().min(most)], !on("convert-new-rule"), buffer)
 }
 
-fn write_read(table: &[u8], stored: bool, buffer: &mut [u8]) -> u64 {
+fn write_read(call: &str, table: &[u8], stored: bool, buffer: &mut [u8]) -> u64 {
     if on("write-13-first") && buffer.len() < EMPTY {
         return 13;
     }
-    let written = shortest(table, stored);
+    let written = shortest(call, table, stored);
     if on("write-refused-cleared") && written.is_err() {
         buffer.fill(0);
     }
@@ -141,14 +167,16 @@ fn write_read(table: &[u8], stored: bool, buffer: &mut [u8]) -> u64 {
 }
 
 fn hand_out_written(table_len: usize, written: &[u8], buffer: &mut [u8]) -> Result<u64, Refusal> {
+    let most = if on("write-old-longest") { longest_table(&OLD_LIMITS, 2, false) } else { written.len() };
+    let written = &written[..written.len().min(most)];
     let (used, room) = (written.len(), buffer.len());
     let wants = [
         ("write-13-exact", used + 1),
         ("write-13-by-table", table_len),
-        ("write-13-by-most", MOST),
-        ("convert-13-by-most", MOST_STORED),
+        ("write-13-by-most", LONGEST),
+        ("convert-13-by-most", LONGEST_STORED),
     ];
-    if wants.iter().any(|&(fault, wanted)| on(fault) && room < wanted) || on("write-13-largest") && used == MOST {
+    if wants.iter().any(|&(fault, wanted)| on(fault) && room < wanted) || on("write-13-largest") && used == LONGEST {
         return Err(Refusal::ShortBuffer);
     }
     if on("write-never") {

@@ -4,6 +4,7 @@
 mod answers;
 pub mod fault;
 pub mod wrong_chart;
+mod wrong_entries;
 mod wrong_forms;
 mod wrong_order;
 mod wrong_rows;

@@ -55,7 +55,12 @@ fn total(edges: &[Edge], turned: &[bool], rows: &[usize]) -> u64 {
             u64::from(edge.weight) * length
         }
     };
-    edges.iter().zip(turned).map(term).sum()
+    let total: u64 = edges.iter().zip(turned).map(term).sum();
+    if on("total-18-bits") {
+        total & 0x3_ffff
+    } else {
+        total
+    }
 }
 
 /// Gives the pass points other numbers.

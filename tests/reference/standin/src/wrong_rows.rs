@@ -1,9 +1,10 @@
 //! The row finder, the record form and their wrong variants.
 
+use reference::loops::lowest_on_loop;
 use reference::records::{rows_of_edges, rows_of_records, Record};
 use reference::refusal::Refusal;
 use reference::rows::{find_rows, lowest_rows, row_count};
-use reference::table::{Edge, LIMITS};
+use reference::table::{Edge, LIMITS, OLD_LIMITS};
 
 use crate::fault::on;
 
@@ -11,6 +12,8 @@ pub fn rows(steps: usize, edges: &[Edge]) -> Result<Vec<usize>, Refusal> {
     if on("refuse-11-always") {
         return Err(Refusal::Loop(0));
     }
+    let most = if on("rows-old-edges") { OLD_LIMITS.edges as usize } else { edges.len() };
+    let edges = &edges[..edges.len().min(most)];
     match rows_of_edges(steps, edges) {
         Err(Refusal::Loop(step)) => wrong_loop(steps, edges, step),
         right => right.map(|right| wrong_rows(edges, right)),
@@ -27,6 +30,10 @@ fn wrong_loop(steps: usize, edges: &[Edge], step: usize) -> Result<Vec<usize>, R
                 (0..steps).any(|step| on_loop(step) && (start == step || reaches(edges, steps, start)[step]))
             })
             .unwrap()
+    } else if on("loop-old-steps") {
+        let old = |edge: &&Edge| edge.from.max(edge.to) < OLD_LIMITS.steps as usize;
+        let seen: Vec<Edge> = edges.iter().filter(old).copied().collect();
+        return lowest_on_loop(steps, &seen).map_or_else(|| Ok(vec![0; steps]), |step| Err(Refusal::Loop(step)));
     } else if on("loop-missed") && (0..steps).filter(|&step| on_loop(step)).count() > 6 {
         return Ok(vec![0; steps]);
     } else if on("loop-no-step") {
@@ -114,6 +121,16 @@ fn part_of_first(steps: usize, edges: &[Edge]) -> Vec<bool> {
 }
 
 pub fn records(steps: usize, records: &[Record]) -> Result<Vec<usize>, Refusal> {
+    if on("records-old-steps") && steps > OLD_LIMITS.steps as usize {
+        return Err(Refusal::TooManySteps);
+    }
+    if on("records-old-edges") && steps <= LIMITS.steps as usize && records.len() > OLD_LIMITS.edges as usize {
+        return Err(Refusal::TooManyEdges);
+    }
+    misjudged(steps, records)
+}
+
+fn misjudged(steps: usize, records: &[Record]) -> Result<Vec<usize>, Refusal> {
     let out_of_range = |record: &Record| !(1..=4).contains(&record[2]) || record[3] > 255;
     let counts_fit = steps <= LIMITS.steps as usize && records.len() <= LIMITS.edges as usize;
     if on("records-6-first") && counts_fit {
@@ -139,7 +156,7 @@ pub fn records(steps: usize, records: &[Record]) -> Result<Vec<usize>, Refusal> 
         judged(steps, &cut(32))
     } else if on("records-8-bits") {
         judged(steps, &cut(8))
-    } else if on("records-193") && records.len() == 193 {
+    } else if on("records-one-more") && records.len() == LIMITS.edges as usize + 1 {
         judged(steps, &records[1..])
     } else {
         judged(steps, records)

@@ -3,7 +3,7 @@
 use reference::loops::lowest_on_loop;
 use reference::refusal::Refusal;
 use reference::soft::{must_edges, turn, Settled};
-use reference::table::{Edge, TableEdge};
+use reference::table::{Edge, TableEdge, OLD_LIMITS};
 
 use crate::fault::on;
 use crate::wrong_rows;
@@ -54,9 +54,10 @@ fn leads(steps: usize, edges: &[Edge], start: usize, goal: usize) -> bool {
     } else {
         steps
     };
-    let mut met = 1u64 << start;
+    let seen = if on("soft-old-steps") { OLD_LIMITS.steps as usize } else { steps };
+    let mut met = 1u128 << start;
     for _ in 0..rounds {
-        let next = edges.iter().filter(|edge| met >> edge.from & 1 == 1);
+        let next = edges.iter().filter(|edge| edge.from.max(edge.to) < seen && met >> edge.from & 1 == 1);
         met = next.fold(met, |met, edge| met | 1 << edge.to);
     }
     met >> goal & 1 == 1

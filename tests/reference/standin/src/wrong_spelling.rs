@@ -1,6 +1,6 @@
 //! How the shortest form is spelled, with a switch at each place where a plausible mistake can be made.
 
-use reference::table::Kind;
+use reference::table::{Kind, LIMITS};
 use reference::writer::{bytes_of, fields_of, short, Draft, Field};
 
 use crate::fault::{on, on_with};
@@ -87,9 +87,10 @@ const MISSPELT: &[(&str, Role, fn(u32) -> Field)] = &[
     ("write-minutes-128", Role::Minutes, cut_128),
     ("write-length-15", Role::Length, |length| short(length.min(15))),
     ("write-edges-7-bits", Role::EdgeCount, |count| short(count & 0x7f)),
+    ("write-edges-8-bits", Role::EdgeCount, |count| short(count & 0xff)),
     ("write-edges-127", Role::EdgeCount, long_127),
     ("write-edges-128", Role::EdgeCount, cut_128),
-    ("write-from-63", Role::From, |from| short(from.min(62))),
+    ("write-from-last", Role::From, |from| short(from.min(LIMITS.steps - 2))),
     ("write-gap-1", Role::Gap, |_| short(1)),
     ("write-gap-4", Role::Gap, |gap| short(gap & 3)),
     ("write-weight-7-bits", Role::Weight, |weight| short(weight & 0x7f)),

@@ -1,22 +1,38 @@
 //! The reader and its wrong variants.
 
+use reference::bounds::longest_table;
 use reference::loops::lowest_on_loop;
 use reference::refusal::Refusal;
 use reference::soft::must_edges;
-use reference::table::{read_within, Limits, Table, LIMITS};
+use reference::table::{read_within, Limits, Table, LIMITS, OLD_LIMITS};
 
-use crate::fault::on;
+use crate::fault::{on, on_with};
 use crate::wrong_forms;
 
-/// By the old rule for a stored table, else by today's.
-pub fn read(bytes: &[u8], stored: bool) -> Result<Table, Refusal> {
-    let right = wrong_forms::limits(stored);
+/// What a call reads: by the old rule of a stored table, else by today's.
+pub fn read(call: &str, bytes: &[u8], stored: bool) -> Result<Table, Refusal> {
+    let by_old_rule = stored || on_with("old-rule-", call);
+    let right = limits_of(call, by_old_rule);
+    let most = if on("read-old-longest") && !stored { longest_table(&OLD_LIMITS, 2, false) } else { bytes.len() };
+    let bytes = &bytes[..bytes.len().min(most)];
     let read = read_wrongly(bytes, &right);
-    if stored {
-        read
-    } else {
-        wrong_forms::judge(bytes, read)
+    match if by_old_rule { read } else { wrong_forms::judge(bytes, read) } {
+        Err(Refusal::BadFirmness) if takes_any_firmness(call) => read_any_firmness(bytes, &right),
+        read => read,
     }
+}
+
+fn limits_of(call: &str, by_old_rule: bool) -> Limits {
+    let right = wrong_forms::limits(by_old_rule);
+    if on_with("old-limits-", call) {
+        return Limits { rule: right.rule, ..OLD_LIMITS };
+    }
+    right
+}
+
+/// Either call that writes has the variant of both.
+fn takes_any_firmness(call: &str) -> bool {
+    on_with(if call == "convert" { "write" } else { call }, "-no-15")
 }
 
 /// The limits are right but for the forms of numbers.
@@ -49,14 +65,6 @@ fn read_wrongly(bytes: &[u8], right: &Limits) -> Result<Table, Refusal> {
     }
 }
 
-/// The reader of one call that does not judge firmness, where this fault is on.
-pub fn read_leniently(bytes: &[u8], stored: bool, fault: &str) -> Result<Table, Refusal> {
-    match read(bytes, stored) {
-        Err(Refusal::BadFirmness) if on(fault) => read_any_firmness(bytes, &wrong_forms::limits(stored)),
-        read => read,
-    }
-}
-
 fn read_any_firmness(bytes: &[u8], right: &Limits) -> Result<Table, Refusal> {
     read_within(bytes, &Limits { firmness: 0..=u32::MAX, ..right.clone() })
 }
@@ -76,10 +84,12 @@ pub fn fault_end(bytes: &[u8], right: &Limits) -> usize {
 
 /// The limit that a variant alters.
 const ALTERED: &[(&str, fn(&mut Limits))] = &[
-    ("steps-65", |limits| limits.steps = 65),
-    ("steps-63", |limits| limits.steps = 63),
-    ("edges-193", |limits| limits.edges = 193),
-    ("edges-191", |limits| limits.edges = 191),
+    ("steps-one-more", |limits| limits.steps += 1),
+    ("steps-one-fewer", |limits| limits.steps -= 1),
+    ("edges-one-more", |limits| limits.edges += 1),
+    ("edges-one-fewer", |limits| limits.edges -= 1),
+    ("steps-old-limit", |limits| limits.steps = OLD_LIMITS.steps),
+    ("edges-old-limit", |limits| limits.edges = OLD_LIMITS.edges),
     ("gap-5", |limits| limits.gap = 1..=5),
     ("gap-3", |limits| limits.gap = 1..=3),
     ("gap-0", |limits| limits.gap = 0..=4),

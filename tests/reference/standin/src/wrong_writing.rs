@@ -10,11 +10,11 @@ use reference::table::{read_table, Kind, Table, TableEdge, LIMITS};
 
 use crate::fault::on;
 use crate::wrong_spelling::{in_edition_2, spell, widths};
-use crate::wrong_table::read_leniently;
+use crate::wrong_table::read;
 
 /// Of a table that is read by the old rule if it is a stored one.
-pub fn shortest(bytes: &[u8], stored: bool) -> Result<Vec<u8>, Refusal> {
-    let table = read_leniently(bytes, stored, "write-no-15")?;
+pub fn shortest(call: &str, bytes: &[u8], stored: bool) -> Result<Vec<u8>, Refusal> {
+    let table = read(call, bytes, stored)?;
     judge_too_much(&table)?;
     let mut said = said(bytes, &table);
     let has_soft = said.edges.iter().any(|edge| edge.soft);
@@ -69,8 +69,8 @@ const SPOILED: &[(&str, fn(&mut Said))] = &[
     ("write-steps-swapped", |said| swap_last(&mut said.steps)),
     ("write-edges-swapped", |said| swap_last(&mut said.edges)),
     ("write-edges-sorted", |said| said.edges.sort_by_key(|edge| (edge.edge.from, edge.edge.to))),
-    ("write-step-63", |said| repeat(&mut said.steps, 63)),
-    ("write-edge-191", |said| repeat(&mut said.edges, 191)),
+    ("write-step-last", |said| repeat(&mut said.steps, LIMITS.steps as usize - 1)),
+    ("write-edge-last", |said| repeat(&mut said.edges, LIMITS.edges as usize - 1)),
     ("write-edges-joined", |said| said.edges.dedup()),
     ("write-must-first", |said| said.edges.sort_by_key(|edge| edge.soft)),
     ("write-weight-0-lost", |said| said.edges.retain(|edge| edge.edge.weight > 0)),

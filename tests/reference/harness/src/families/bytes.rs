@@ -1,6 +1,9 @@
 //! Bytes that are hardly or not at all a table.
 
+use reference::bounds::longest_table;
+use reference::program::MAX_INPUT;
 use reference::random::Random;
+use reference::table::{LIMITS, OLD_LIMITS};
 use reference::writer::{write_table, write_widened, Draft};
 
 use crate::drafts::{
@@ -163,7 +166,7 @@ pub fn long_soft_input(judge: &mut Judge, random: &mut Random, group: usize) {
 /// By turns in the fewest bytes and with every number in three.
 fn lengthen(judge: &mut Judge, random: &mut Random, draft: &Draft, group: usize) {
     let mut bytes = write_widened(draft, || [1, 3][group % 2]);
-    let len = random.pick(&LENGTHS);
+    let len = random.pick(&lengths());
     let filling = random.pick(&[0, 1, 0x41, 0x80]);
     for len in [bytes.len(), bytes.len() + 1, len.max(bytes.len() + 1)] {
         bytes.resize(len, filling);
@@ -173,6 +176,11 @@ fn lengthen(judge: &mut Judge, random: &mut Random, draft: &Draft, group: usize)
     }
 }
 
-/// The longest tables have 2,244 bytes in edition 1 and 2,436 in edition 2, stored ones 3,913 and 4,489; and a program looks
-/// at no more than 8,192.
-const LENGTHS: [usize; 13] = [2244, 2245, 2436, 2437, 3913, 3914, 4489, 4490, 8191, 8192, 8193, 10_000, 20_000];
+/// The longest tables of either edition and rule, with these limits and the old ones, and a byte more; about the most that a
+/// program looks at; and longer.
+fn lengths() -> Vec<usize> {
+    let forms = [(1, false), (2, false), (1, true), (2, true)];
+    let longest = |limits| forms.map(|(edition, stored)| longest_table(limits, edition, stored));
+    let tables = [&OLD_LIMITS, &LIMITS].into_iter().flat_map(longest).flat_map(|len| [len, len + 1]);
+    tables.chain([MAX_INPUT - 1, MAX_INPUT, MAX_INPUT + 1, 10_000, 20_000]).collect()
+}

@@ -1,10 +1,12 @@
 //! The stated short cases, and each limit met exactly and passed by one.
 
+use reference::points::MAX_POINTS;
 use reference::random::Random;
 use reference::table::{Edge, Kind};
 use reference::writer::{bytes_of, fields_of, short, write_table, write_widened, Draft, Field};
 
 use crate::judge::Judge;
+use crate::shapes::{EDGES, OLD_EDGES, OLD_STEPS, STEPS};
 
 const SAMPLE: &[u8] = b"\x01\x04\x02\x1e\x04warm\x00\x04lock\x00\x05sweep\x01\x32\x05level\x04\
 \x00\x01\x01\x01\x01\x02\x02\x03\x00\x03\x01\x01\x03\x02\x01\x05";
@@ -28,7 +30,7 @@ const LONG_FORMS: [&[u8]; 9] = [
 ];
 
 pub fn stated_cases(judge: &mut Judge, _: &mut Random, _: usize) {
-    let cases: [&[u8]; 23] = [
+    let cases: [&[u8]; 25] = [
         SAMPLE,
         &[1, 0, 0],
         &[],
@@ -37,6 +39,8 @@ pub fn stated_cases(judge: &mut Judge, _: &mut Random, _: usize) {
         &[0x80, 0x80, 0x80],
         &[1, 0x40],
         &[1, 0x41],
+        &[1, STEPS as u8],
+        &[1, STEPS as u8 + 1],
         &[1, 0, 0, 0],
         &[1, 1, 0, 1, 0x41, 1, 0, 0],
         &[1, 2, 0, 1, 0x41, 0, 1, 0x42, 2, 0, 1, 1, 1, 1, 0, 1, 1],
@@ -91,15 +95,15 @@ pub fn field_limits(judge: &mut Judge, _: &mut Random, _: usize) {
 /// small edition before edges of five numbers.
 pub fn soft_limits(judge: &mut Judge, _: &mut Random, _: usize) {
     for firmness in [0, 1, 2, 3, 4, 127, 128, 129, 255, 256, 257, 16_383, 16_384, 16_385, 65_536, 65_537, 2_097_151] {
-        for (edges, weight) in [(1, 1), (3, 255), (3, 256), (192, 0)] {
+        for (edges, weight) in [(1, 1), (3, 255), (3, 256), (EDGES, 0)] {
             let mut draft = soft_chain(4, edges, weight, 1);
             *draft.firmness.as_mut().unwrap().last_mut().unwrap() = firmness;
             judge_forms(judge, &draft);
             judge_forms(judge, &soft_chain(4, edges, weight, firmness));
         }
     }
-    for edges in [0, 1, 191, 192, 193, 194, 255, 256, 257] {
-        judge_forms(judge, &soft_chain(64, edges, 255, 0));
+    for edges in [0].into_iter().chain(EDGE_COUNTS) {
+        judge_forms(judge, &soft_chain(STEPS, edges, 255, 0));
         judge_forms(judge, &soft_chain(2, edges, 0, 1));
     }
     for (value, width) in (0..300).flat_map(|value| (1..=4).map(move |width| (value, width))) {
@@ -109,17 +113,40 @@ pub fn soft_limits(judge: &mut Judge, _: &mut Random, _: usize) {
     }
 }
 
+/// At and about the limits, the old ones too, and the largest numbers of seven and eight bits.
+const STEP_COUNTS: [usize; 14] =
+    [0, 1, 2, OLD_STEPS - 1, OLD_STEPS, OLD_STEPS + 1, STEPS - 1, STEPS, STEPS + 1, STEPS + 2, 127, 128, 255, 256];
+const EDGE_COUNTS: [usize; 11] =
+    [1, OLD_EDGES - 1, OLD_EDGES, OLD_EDGES + 1, 255, 256, 257, EDGES - 1, EDGES, EDGES + 1, EDGES + 2];
+
 fn count_limits() -> Vec<Draft> {
-    let mut drafts = Vec::new();
-    for steps in [0, 1, 2, 63, 64, 65, 66, 127, 128, 255, 256] {
+    let mut drafts = vec![largest_total()];
+    for steps in STEP_COUNTS {
         drafts.push(chain(steps, Kind::Check, b"s", 0, 1, 1));
-        drafts.push(chain(steps, Kind::Check, b"s", steps.saturating_sub(1).min(192), 4, 255));
+        drafts.push(chain(steps, Kind::Check, b"s", steps.saturating_sub(1).min(EDGES), 4, 255));
     }
-    for edges in [1, 191, 192, 193, 194, 255, 256, 257] {
-        drafts.push(chain(64, Kind::Check, b"e", edges, 1, 255));
+    for edges in EDGE_COUNTS {
+        for steps in [OLD_STEPS, STEPS] {
+            drafts.push(chain(steps, Kind::Check, b"e", edges, 1, 255));
+        }
         drafts.push(chain(2, Kind::Check, b"e", edges, 4, 0));
     }
     drafts
+}
+
+/// The largest total that a chart can have: lengths add up to the edges and the dummies, and every weight is the largest.
+/// With more than three steps there are fewer dummies, and two steps are too near for so many. Rows are 0, 4 and 7.
+fn largest_total() -> Draft {
+    let dummies = MAX_POINTS - 3;
+    let counted = |long: usize, short: usize| Some([long, short, EDGES.checked_sub(long + short)?]);
+    let counts = (0..EDGES)
+        .flat_map(|long| (1..3).filter_map(move |short| counted(long, short)))
+        .find(|[long, short, others]| 6 * long + 2 * short + 3 * others == dummies)
+        .expect("points can be counted out");
+    let edge = |from, to, gap| Edge { from, to, gap, weight: 255 };
+    let kinds = [edge(0, 2, 1), edge(1, 2, 3), edge(0, 1, 4)];
+    let edges = kinds.into_iter().zip(counts).flat_map(|(edge, count)| vec![edge; count]).collect();
+    Draft { edges, ..chain(3, Kind::Check, b"t", 0, 1, 1) }
 }
 
 fn range_limits() -> Vec<Draft> {

@@ -2,12 +2,12 @@
 
 use reference::random::Random;
 use reference::records::Record;
-use reference::words::write_words;
+use reference::words::{write_words, MAX_ENTRIES, MAX_RECORDS};
 
 use crate::drafts::{any_gaps, any_weights, dress, records_of};
 use crate::families::loops::{looped_edges, tailed_edges};
 use crate::judge::Judge;
-use crate::shapes::{self, Shape};
+use crate::shapes::{self, Shape, EDGES, OLD_EDGES, OLD_STEPS, STEPS};
 
 const MAKERS: [fn(&mut Random) -> Shape; 12] = [
     shapes::tiny,
@@ -61,33 +61,69 @@ pub fn spoiled(judge: &mut Judge, random: &mut Random, _: usize) {
     for _ in 0..random.between(1, 3) {
         if random.one_in(12) {
             let low = steps % 256;
-            steps = random.pick(&[0, 1, 64, 65, 256, 256 + low, 65536 + low, (1 << 32) + low, usize::MAX]);
+            let limits = [OLD_STEPS, OLD_STEPS + 1, STEPS, STEPS + 1];
+            let others = [0, 1, 256, 256 + low, 65536 + low, (1 << 32) + low, usize::MAX];
+            steps = random.pick(&[&limits[..], &others].concat());
         } else if !records.is_empty() {
             let at = random.below(records.len());
             let place = random.below(4);
-            records[at][place] = odd_number(random, records[at][place], steps.min(64));
+            records[at][place] = odd_number(random, records[at][place], steps.min(STEPS));
         }
     }
     judge.judge_records(steps, &records);
 }
+
+/// About the limits, the old ones too, about how many the program lends, and such as fit when cut to 8 or 9 bits.
+const RECORD_COUNTS: [usize; 15] = [
+    0,
+    1,
+    OLD_EDGES - 1,
+    OLD_EDGES,
+    OLD_EDGES + 1,
+    255,
+    256,
+    EDGES - 1,
+    EDGES,
+    EDGES + 1,
+    MAX_RECORDS,
+    MAX_RECORDS + 1,
+    256 + OLD_EDGES,
+    512 + EDGES,
+    900,
+];
+const STEP_COUNTS: [usize; 13] = [
+    0,
+    1,
+    OLD_STEPS - 1,
+    OLD_STEPS,
+    OLD_STEPS + 1,
+    STEPS - 1,
+    STEPS,
+    STEPS + 1,
+    128,
+    256,
+    256 + STEPS,
+    1 << 32,
+    usize::MAX,
+];
 
 /// Counts at and past their limits, with good and bad records behind them.
 pub fn limits(judge: &mut Judge, random: &mut Random, group: usize) {
     if group == 0 {
         cut_words(judge);
     }
-    for count in [0, 1, 191, 192, 193, 194, 256, 257, 448, 900] {
-        let steps = random.pick(&[2, 3, 64]);
+    for count in RECORD_COUNTS {
+        let steps = random.pick(&[2, 3, OLD_STEPS, STEPS]);
         let record = [0, 1, random.between(1, 4), random.below(256)];
         let mut records = vec![record; count];
         judge.judge_records(steps, &records);
-        judge.judge_records(steps + 62, &records);
+        judge.judge_records(steps + STEPS - 2, &records);
         if count > 0 {
             records[random.below(count)] = random.pick(&[[0, 0, 1, 1], [0, 1, 5, 1], [1, 0, 1, 1], [0, 9999, 1, 256]]);
             judge.judge_records(steps, &records);
         }
     }
-    for steps in [0, 1, 63, 64, 65, 128, 256, 320, 1 << 32, usize::MAX] {
+    for steps in STEP_COUNTS {
         judge.judge_records(steps, &[]);
         judge.judge_records(steps, &[[0, steps.wrapping_sub(1), 1, 1]]);
         judge.judge_records(steps, &[[0, steps, 1, 1]]);
@@ -96,14 +132,14 @@ pub fn limits(judge: &mut Judge, random: &mut Random, group: usize) {
         for number in (0..300).chain([1 << 16, 1 << 32, usize::MAX]) {
             let mut record = [0, 1, 1, 1];
             record[place] = number;
-            judge.judge_records(64, &[[2, 3, 1, 1], record]);
+            judge.judge_records(STEPS, &[[2, 3, 1, 1], record]);
         }
     }
 }
 
 /// The program's input cut everywhere, with counts whose bytes differ.
 fn cut_words(judge: &mut Judge) {
-    for (steps, entries) in [(2, 2), (64, 255), (1 << 56 | 2, 2), (2, 1 << 56)] {
+    for (steps, entries) in [(2, 2), (STEPS, MAX_ENTRIES), (1 << 56 | 2, 2), (2, 1 << 56)] {
         let words = write_words(steps, entries, &[[1, 0, 1, 1], [0, 1, 1, 1]]);
         for len in 0..=words.len() {
             judge.compare_cut_words(&words[..len]);

@@ -1,5 +1,6 @@
 //! Tables for the calls that write: every spelling of a table has the same shortest form.
 
+use reference::bounds::{LONGEST, LONGEST_STORED};
 use reference::random::Random;
 use reference::table::{Edge, Kind, LIMITS};
 use reference::writer::{bytes_of, fields_of, widen, write_table, write_widened, Draft, Field};
@@ -67,12 +68,16 @@ pub fn values(judge: &mut Judge, _: &mut Random, _: usize) {
     }
 }
 
-/// Every pair of ends.
+/// Every pair of ends; one in five with all numbers in longer forms too.
 pub fn ends(judge: &mut Judge, _: &mut Random, _: usize) {
     let mut draft = chain(STEPS, Kind::Check, b"e", 1, 1, 1);
     for (from, to) in (0..STEPS * STEPS).map(|code| (code / STEPS, code % STEPS)).filter(|(from, to)| from != to) {
         draft.edges[0] = Edge { from, to, gap: 1, weight: 1 };
-        judge_widths(judge, &draft);
+        if (from + to) % 5 == 0 {
+            judge_widths(judge, &draft);
+        } else {
+            judge.judge_written(&write_table(&draft));
+        }
     }
 }
 
@@ -95,7 +100,7 @@ fn judge_widths(judge: &mut Judge, draft: &Draft) {
 
 /// One soft edge at every place among many must edges, and one must edge among soft ones.
 pub fn single_soft(judge: &mut Judge, _: &mut Random, _: usize) {
-    for edges in [1, 2, 3, 63, 64, 65, 127, 128, 129, 191, 192] {
+    for edges in [1, 2, 3, 127, 128, 256, EDGES - 1, EDGES] {
         let draft = chain(STEPS, Kind::Check, b"f", edges, 2, 200);
         for (at, soft) in (0..edges).flat_map(|at| [(at, 0), (at, 1)]) {
             let mut firmness = vec![1 - soft; edges];
@@ -151,9 +156,6 @@ pub fn buffers(judge: &mut Judge, random: &mut Random, group: usize) {
     }
 }
 
-/// No shortest form is longer than the first, and no stored table longer than the second.
-const LONGEST: [usize; 2] = [2436, 4489];
-
 /// As many steps and edges as there may be, names of 16 bytes, and numbers of two bytes wherever one can be.
 pub fn largest(judge: &mut Judge, random: &mut Random, group: usize) {
     let mut draft = longest_draft(random);
@@ -162,7 +164,7 @@ pub fn largest(judge: &mut Judge, random: &mut Random, group: usize) {
     firmness[EDGES - 1 - group % EDGES] = 1;
     draft.firmness = Some(firmness);
     let (short, long) = (write_table(&draft), write_widened(&draft, || 3));
-    assert_eq!([short.len(), long.len()], LONGEST);
+    assert_eq!([short.len(), long.len()], [LONGEST, LONGEST_STORED]);
     judge.judge_table(&short);
     judge.judge_written_buffers(&long, &[-10_000, -1, 0, 1, 1000]);
     judge.compare_conversion(&long);

@@ -1,17 +1,50 @@
 //! Good tables with one or two fields spoiled: every refusal at every field, and which of two wins.
 
 use reference::random::Random;
-use reference::table::Kind;
+use reference::table::{Kind, LIMITS, OLD_LIMITS};
 use reference::writer::{bytes_of, fields_of, short, Draft, Field};
 
 use crate::drafts::{any_kind, any_name, any_weights, dress, soften_some, Gaps};
 use crate::judge::Judge;
 use crate::shapes;
 
-/// The limits of all fields and their neighbours.
-pub const VALUES: [u32; 29] = [
-    0, 1, 2, 3, 4, 5, 15, 16, 17, 63, 64, 65, 127, 128, 191, 192, 193, 239, 240, 241, 254, 255, 256, 257, 9_998, 9_999,
-    10_000, 16_384, 2_097_151,
+const STEPS: u32 = LIMITS.steps;
+const EDGES: u32 = LIMITS.edges;
+
+/// The limits of all fields and their neighbours, the old ones too.
+pub const VALUES: [u32; 32] = [
+    0,
+    1,
+    2,
+    3,
+    4,
+    5,
+    15,
+    16,
+    17,
+    OLD_LIMITS.steps,
+    OLD_LIMITS.steps + 1,
+    STEPS - 1,
+    STEPS,
+    STEPS + 1,
+    127,
+    128,
+    OLD_LIMITS.edges,
+    OLD_LIMITS.edges + 1,
+    239,
+    240,
+    241,
+    254,
+    255,
+    256,
+    257,
+    EDGES,
+    EDGES + 1,
+    9_998,
+    9_999,
+    10_000,
+    16_384,
+    2_097_151,
 ];
 const BYTES: [u8; 8] = [0, 0x20, 0x21, 0x3d, 0x7e, 0x7f, 0x80, 0xff];
 

@@ -1,5 +1,6 @@
 //! Puts a table to the calls that write its shortest form, and reads again what was written.
 
+use reference::bounds::LONGEST_STORED;
 use reference::calls::{hand_out_bytes, pack};
 use reference::points::MAX_POINTS;
 use reference::refusal::Refusal;
@@ -12,7 +13,7 @@ use crate::shapes::STEPS;
 use crate::watch;
 
 /// The longest buffer that is lent, longer than any table that is accepted by either rule.
-const MOST: usize = 5000;
+const MOST: usize = LONGEST_STORED + 500;
 
 type Read = fn(&[u8]) -> Result<Table, Refusal>;
 

@@ -2,13 +2,14 @@
 
 use host::fault::on;
 use host::wrong_chart::SAMPLE;
+use reference::bounds::longest_table;
 use reference::chart::draw_chart;
 use reference::convert::convert_table;
 use reference::listing::{list_chart, print_chart};
 use reference::order::{count_crossings, run_pass, start_order, PASSES};
 use reference::points::Layout;
-use reference::program::{run, MAX_INPUT};
-use reference::table::read_table;
+use reference::program::{judged_bytes, run, MAX_INPUT};
+use reference::table::{read_table, read_within, OLD_LIMITS};
 
 fn main() {
     run(|input| spoil(&input));
@@ -22,7 +23,13 @@ fn spoil(input: &[u8]) -> Vec<u8> {
         let converted = convert_table(input);
         return if converted.starts_with(b"refused") { converted } else { print_chart(&converted) };
     }
-    let right = print_chart(input);
+    if on("print-old-limits") {
+        if let Err(refusal) = read_within(judged_bytes(input), &OLD_LIMITS) {
+            return refusal.line();
+        }
+    }
+    let most = if on("print-old-longest") { longest_table(&OLD_LIMITS, 2, false) } else { input.len() };
+    let right = print_chart(&input[..input.len().min(most)]);
     let text = String::from_utf8_lossy(&right).into_owned();
     if on("print-blank-at-end") {
         return text.replace('\n', " \n").into_bytes();
@@ -35,6 +42,10 @@ fn spoil(input: &[u8]) -> Vec<u8> {
             _ => right,
         };
     }
+    spoil_listing(input)
+}
+
+fn spoil_listing(input: &[u8]) -> Vec<u8> {
     let table = read_table(input).unwrap();
     let mut chart = draw_chart(&table).unwrap();
     if on("print-point-number") {
@@ -57,7 +68,23 @@ fn spoil(input: &[u8]) -> Vec<u8> {
             row.sort_by_key(|&point| chart.layout.edge_of[point].is_some());
         }
     }
-    list_chart(input, &table, &chart)
+    let listing = list_chart(input, &table, &chart);
+    if on("print-row-byte") {
+        return cut_rows(&listing);
+    }
+    listing
+}
+
+/// Of each number of a row its low byte.
+fn cut_rows(listing: &[u8]) -> Vec<u8> {
+    let text = String::from_utf8_lossy(listing);
+    let cut = |line: &str| match line.split_once(' ') {
+        Some((row, points)) if line.starts_with(|c: char| c.is_ascii_digit()) => {
+            format!("{} {points}\n", row.parse::<usize>().unwrap() & 0xff)
+        }
+        _ => format!("{line}\n"),
+    };
+    text.lines().map(cut).collect::<String>().into_bytes()
 }
 
 /// The crossings after the last pass, whichever order was the best.

@@ -1,17 +1,15 @@
 //! The program `convert` of the stand-in, with its wrong variants.
 
 use host::fault::on;
+use reference::bounds::{longest_table, LONGEST};
 use reference::convert::convert_table;
 use reference::loops::lowest_on_loop;
 use reference::program::{judged_bytes, run, MAX_INPUT};
 use reference::refusal::Refusal;
 use reference::shortest::{draft_of, said};
 use reference::soft::must_edges;
-use reference::table::{read_stored, read_table, Table};
+use reference::table::{any_form, read_stored, read_table, read_within, Limits, Table, OLD_LIMITS};
 use reference::writer::write_table;
-
-/// No shortest form has more bytes.
-const MOST: usize = 2436;
 
 fn main() {
     run(|input| spoil(looked_at(&input)));
@@ -20,7 +18,12 @@ fn main() {
 /// The part of the input that is judged.
 fn looked_at(input: &[u8]) -> &[u8] {
     let line_feed = input.iter().position(|&byte| byte == b'\n').unwrap_or(input.len());
-    let parts = [("output-line-read", line_feed), ("output-4096-read", 4096), ("output-2436-read", MOST)];
+    let parts = [
+        ("output-line-read", line_feed),
+        ("output-4096-read", 4096),
+        ("output-shortest-read", LONGEST),
+        ("output-old-longest", longest_table(&OLD_LIMITS, 2, true)),
+    ];
     let len = parts.into_iter().find(|(fault, _)| on(fault)).map_or(input.len(), |(_, len)| len);
     &input[..len.min(input.len())]
 }
@@ -51,6 +54,9 @@ fn refuse_too_much(bytes: &[u8], table: &Table) -> Option<Refusal> {
     if on("output-new-rule") {
         return read_table(bytes).err();
     }
+    if on("output-old-limits") {
+        return read_within(bytes, &Limits { rule: any_form, ..OLD_LIMITS }).err();
+    }
     let step = lowest_on_loop(table.steps.len(), &must_edges(&table.edges));
     step.filter(|_| on("output-loop-11")).map(Refusal::Loop)
 }
@@ -69,7 +75,7 @@ fn spoil_table(bytes: &[u8], table: &Table) -> Vec<u8> {
         }
         _ if on("output-line-added") => [&right[..], b"\n"].concat(),
         _ if on("output-padded") => {
-            right.resize(MOST, 0);
+            right.resize(LONGEST, 0);
             right
         }
         _ => right,

@@ -2,13 +2,13 @@
 
 use host::fault::on;
 use reference::program::run;
-use reference::records::rows_of_records;
-use reference::words::{print_rows, read_words, MAX_ENTRIES};
+use reference::records::{rows_of_records, Record};
+use reference::table::{LIMITS, OLD_LIMITS};
+use reference::words::{print_rows, read_words, MAX_ENTRIES, MAX_RECORDS};
 
 /// Bytes of a word, and of the two words before the records.
 const WORD: usize = 8;
 const HEAD: usize = 16;
-const MAX_EDGES: usize = 192;
 
 fn main() {
     run(spoil);
@@ -30,7 +30,11 @@ fn spoil(mut input: Vec<u8>) -> Vec<u8> {
             word.reverse();
         }
     }
-    let (steps, mut entries, mut records) = read_words(&input);
+    let (steps, entries, records) = read_words(&input);
+    spoil_line(steps, entries, records)
+}
+
+fn spoil_line(steps: usize, mut entries: usize, mut records: Vec<Record>) -> Vec<u8> {
     if on("lent-entries-unread") {
         entries = MAX_ENTRIES;
     }
@@ -38,9 +42,16 @@ fn spoil(mut input: Vec<u8>) -> Vec<u8> {
         records.pop();
     }
     if on("lent-limit-read") {
-        records.truncate(MAX_EDGES);
+        records.truncate(LIMITS.edges as usize);
     }
-    let line = print_rows(&rows_of_records(steps, &records), entries);
+    if on("lent-old-records") {
+        records.truncate(MAX_RECORDS - LIMITS.edges as usize + OLD_LIMITS.edges as usize);
+    }
+    let mut rows = rows_of_records(steps, &records);
+    if on("lent-row-byte") {
+        rows = rows.map(|rows| rows.iter().map(|row| row & 0xff).collect());
+    }
+    let line = print_rows(&rows, entries);
     if on("lent-no-loop-step") && line.starts_with(b"refused 11") {
         return b"refused 11\n".to_vec();
     }
