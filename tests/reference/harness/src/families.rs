@@ -6,11 +6,13 @@ mod forms;
 mod graphs;
 mod limits;
 mod loops;
+mod old;
 mod points;
 mod records;
 mod shortest;
 mod soft;
 mod spoiled;
+mod tall;
 
 use reference::random::Random;
 
@@ -81,6 +83,11 @@ pub const FAMILIES: &[Family] = &[
     endless("random bytes", 6000, bytes::random_bytes),
     endless("point limit", 600, points::near_limit),
     endless("soft point limit", 200, points::soft_near_limit),
+    endless("wide point limit", 100, points::wide_near_limit),
+    endless("tall", 120, tall::tall),
+    endless("tall soft", 80, tall::tall_soft),
+    endless("old limits", 200, old::within),
+    endless("past old limits", 100, old::past),
     endless("buffers", 400, buffers::all_lengths),
     endless("soft buffers", 200, soft::buffers),
     endless("sparse", 1500, graphs::sparse),
@@ -99,8 +106,8 @@ pub const FAMILIES: &[Family] = &[
     endless("single rows", 200, graphs::single_row),
     endless("full", 150, graphs::full),
     endless("half turned", 150, soft::half_turned),
-    endless("cut", 300, bytes::cut_everywhere),
-    endless("cut soft", 100, bytes::cut_soft),
+    endless("cut", 230, bytes::cut_everywhere),
+    endless("cut soft", 70, bytes::cut_soft),
     endless("spoiled fields", 50, spoiled::each_field),
     endless("spoiled soft fields", 20, spoiled::each_soft_field),
 ];

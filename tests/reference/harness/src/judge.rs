@@ -1,19 +1,20 @@
 //! Puts one input to the library and to the reference and compares answers and buffers.
 
+mod kept;
+mod lists;
 mod printed;
 mod written;
 
 use std::fmt::Display;
 
 use reference::calls::{counts, hand_out_chart, hand_out_rows, name, pack};
-use reference::chart::{draw_chart, Chart};
+use reference::chart::{draw_placed, Chart};
 use reference::random::Random;
-use reference::records::{rows_of_records, Record};
 use reference::refusal::Refusal;
-use reference::soft::rows_of_table;
+use reference::soft::{place_table, Placed};
 use reference::table::read_table;
 
-use crate::host::{self, Calls, CALLS, CHART, COUNTS, NAME, RECORDS, ROWS};
+use crate::host::{self, Calls, CALLS, CHART, COUNTS, NAME, ROWS};
 use crate::lent::Arena;
 use crate::program::Programs;
 use crate::shapes::STEPS;
@@ -87,19 +88,26 @@ impl Judge {
                 self.run_name(bytes, step, expected);
             }
         }
+        if self.wanted[ROWS] || self.wanted[CHART] {
+            self.judge_placed(bytes, table.and_then(|table| place_table(&table)));
+        }
+        self.judge_written(bytes);
+        self.sample_listing(bytes);
+    }
+
+    /// Rows and chart, whose rows are worked out once.
+    fn judge_placed(&mut self, bytes: &[u8], placed: Result<Placed, Refusal>) {
         if self.wanted[ROWS] {
-            let rows = table.as_ref().map_err(|&refusal| refusal).and_then(rows_of_table);
+            let rows = rows_of(&placed);
+            self.tally.note_rows(rows.as_deref().unwrap_or_default());
             let needed = rows.as_ref().map_or(0, Vec::len);
             for len in [needed, self.other_len(needed, rows.is_err())] {
                 self.compare_rows(bytes, &rows, len);
             }
         }
         if self.wanted[CHART] {
-            let chart = table.as_ref().map_err(|&refusal| refusal).and_then(draw_chart);
-            self.judge_chart(bytes, &chart);
+            self.judge_chart(bytes, &placed.and_then(draw_placed));
         }
-        self.judge_written(bytes);
-        self.sample_listing(bytes);
     }
 
     fn judge_chart(&mut self, bytes: &[u8], chart: &Result<Chart, Refusal>) {
@@ -118,9 +126,9 @@ impl Judge {
     /// Rows and chart with every pair of these buffer lengths, as differences from what is needed; writing with each.
     pub fn judge_buffers(&mut self, bytes: &[u8], offsets: &[isize]) {
         self.judge_written_buffers(bytes, offsets);
-        let table = read_table(bytes);
-        let chart = table.as_ref().map_err(|&refusal| refusal).and_then(draw_chart);
-        let rows = table.as_ref().map_err(|&refusal| refusal).and_then(rows_of_table);
+        let placed = read_table(bytes).and_then(|table| place_table(&table));
+        let rows = rows_of(&placed);
+        let chart = placed.and_then(draw_placed);
         let points = chart.as_ref().map_or(0, Chart::point_count);
         let needed = rows.as_ref().map_or(0, Vec::len);
         for &more_rows in offsets {
@@ -134,23 +142,6 @@ impl Judge {
             for &more_order in offsets {
                 self.compare_chart(bytes, &chart, rows_len, points.saturating_add_signed(more_order));
             }
-        }
-    }
-
-    pub fn judge_records(&mut self, steps: usize, records: &[Record]) {
-        let printed = self.samples_list();
-        if !self.wanted[RECORDS] && !printed {
-            return;
-        }
-        let rows = rows_of_records(steps, records);
-        if self.wanted[RECORDS] {
-            let needed = rows.as_ref().map_or(0, Vec::len);
-            for len in [needed, self.other_len(needed, rows.is_err())] {
-                self.compare_records(steps, records, &rows, len);
-            }
-        }
-        if printed {
-            self.compare_lists(steps, records, &rows);
         }
     }
 
@@ -230,22 +221,6 @@ impl Judge {
         self.settle(call, fault, || format!("buffers {lens:?}, table {}", hex(bytes)));
     }
 
-    fn compare_records(&mut self, steps: usize, records: &[Record], rows: &Result<Vec<usize>, Refusal>, len: usize) {
-        let filling = self.filled_entries(len);
-        let mut due = filling.clone();
-        let expected = pack(hand_out_rows(rows, &mut due));
-        let numbers: Vec<u8> = records.iter().flatten().flat_map(|number| number.to_ne_bytes()).collect();
-        let flush = self.random.one_in(2);
-        let lent_numbers = (self.numbers.place(&numbers, flush, 8) as *const usize, records.len() * 4);
-        let lent_rows = self.rows.place_entries(&filling, flush);
-        let (answer, took) = watch::timed(RECORDS, || host::records(steps, lent_numbers, lent_rows));
-        self.tally.note_call(RECORDS, expected, took, self.place);
-        let fault = buffer_fault("records", &mut self.numbers, &numbers)
-            .or_else(|| answer_fault(expected, answer))
-            .or_else(|| entries_fault("rows", &mut self.rows, &due));
-        self.settle(RECORDS, fault, || format!("steps {steps}, buffer {len}, records {records:?}"));
-    }
-
     fn input_fault(&mut self, bytes: &[u8]) -> Option<String> {
         buffer_fault("table", &mut self.table, bytes)
     }
@@ -267,6 +242,10 @@ impl Judge {
 
 /// What a buffer holds before the call and what it has to hold after it.
 type Lending = Option<(Vec<u16>, Vec<u16>)>;
+
+fn rows_of(placed: &Result<Placed, Refusal>) -> Result<Vec<usize>, Refusal> {
+    placed.as_ref().map(|placed| placed.rows.clone()).map_err(|&refusal| refusal)
+}
 
 fn answer_fault(expected: u64, answer: u64) -> Option<String> {
     (answer != expected).then(|| format!("answer {answer:#x} for {expected:#x}"))

@@ -24,6 +24,8 @@ pub struct Tally {
     by_pass: [u64; PASSES + 1],
     /// Charts with turned edges, and how many these are.
     turned: (u64, usize),
+    /// Tables with rows that no byte holds, and the highest row of all.
+    tall: (u64, usize),
     /// By the call, tables written, and those of them that came in more bytes.
     written: [(u64, u64); CALLS.len()],
     /// Time spent in each call.
@@ -42,6 +44,7 @@ impl Tally {
             by_refusal: [0; REFUSALS + 1],
             by_pass: [0; PASSES + 1],
             turned: (0, 0),
+            tall: (0, 0),
             written: [(0, 0); CALLS.len()],
             spent: [Duration::ZERO; CALLS.len()],
             slowest: [(Duration::ZERO, "", 0); CALLS.len()],
@@ -62,6 +65,11 @@ impl Tally {
         let turned = chart.turned.iter().filter(|&&turned| turned).count();
         self.turned.0 += u64::from(turned > 0);
         self.turned.1 += turned;
+    }
+
+    pub fn note_rows(&mut self, rows: &[usize]) {
+        let highest = rows.iter().copied().max().unwrap_or(0);
+        self.tall = (self.tall.0 + u64::from(highest > u8::MAX as usize), self.tall.1.max(highest));
     }
 
     pub fn note_written(&mut self, call: usize, table_len: usize, shortest: usize) {
@@ -94,6 +102,7 @@ impl Tally {
         }
         println!("charts by the pass that gives the order, from the start on: {:?}", self.by_pass);
         println!("charts with turned edges: {}, turned edges in them: {}", self.turned.0, self.turned.1);
+        println!("tables with rows above {}: {}, highest row {}", u8::MAX, self.tall.0, self.tall.1);
         for (call, what) in [(WRITE, "written"), (CONVERT, "converted")] {
             let (tables, shorter) = self.written[call];
             println!("tables {what}: {tables}, of them shorter than they came: {shorter}");

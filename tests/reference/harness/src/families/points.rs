@@ -14,19 +14,40 @@ use crate::shapes::{EDGES, STEPS};
 pub fn near_limit(judge: &mut Judge, random: &mut Random, group: usize) {
     let target =
         random.pick(&[MAX_POINTS, MAX_POINTS, MAX_POINTS + 1, MAX_POINTS + 1, MAX_POINTS - 1, MAX_POINTS + 30]);
-    let (steps, edges) = find_chart(random, target);
+    let (steps, edges) = find_chart(random, target, any_size);
     let edges = edges.iter().map(|edge| edge.edge).collect();
     judge_near(judge, group, &draft(random, steps, edges));
+}
+
+fn any_size(random: &mut Random) -> (usize, usize) {
+    let steps = random.between(8, STEPS);
+    (steps, random.between(6, steps - 1))
 }
 
 /// Edges that pass a step are soft here, and half of them point back: the chain's must edges turn these.
 pub fn soft_near_limit(judge: &mut Judge, random: &mut Random, group: usize) {
     let target = random.pick(&[MAX_POINTS, MAX_POINTS + 1]);
-    let (steps, edges) = find_chart(random, target);
+    let (steps, edges) = find_chart(random, target, any_size);
+    judge_near(judge, group, &soft_draft(random, steps, &edges));
+}
+
+/// As many steps as there may be, in few rows and so in wide ones; by turns in either edition.
+pub fn wide_near_limit(judge: &mut Judge, random: &mut Random, group: usize) {
+    let target = MAX_POINTS + group % 2;
+    let (steps, edges) = find_chart(random, target, |random| (STEPS, random.between(8, 16)));
+    if group % 4 < 2 {
+        let edges = edges.iter().map(|edge| edge.edge).collect();
+        judge_near(judge, group, &draft(random, steps, edges));
+    } else {
+        judge_near(judge, group, &soft_draft(random, steps, &edges));
+    }
+}
+
+fn soft_draft(random: &mut Random, steps: usize, edges: &[TableEdge]) -> Draft {
     let firmness = edges.iter().map(|edge| u32::from(edge.soft)).collect();
     let laid = |edge: &TableEdge| if edge.soft && random.one_in(2) { turn(edge.edge) } else { edge.edge };
     let edges = edges.iter().map(laid).collect();
-    judge_near(judge, group, &Draft { firmness: Some(firmness), ..draft(random, steps, edges) });
+    Draft { firmness: Some(firmness), ..draft(random, steps, edges) }
 }
 
 fn judge_near(judge: &mut Judge, group: usize, draft: &Draft) {
@@ -37,17 +58,19 @@ fn judge_near(judge: &mut Judge, group: usize, draft: &Draft) {
     }
 }
 
-fn find_chart(random: &mut Random, target: usize) -> (usize, Vec<TableEdge>) {
+/// How many steps, and how many links the chain is to have.
+type Size = fn(&mut Random) -> (usize, usize);
+
+fn find_chart(random: &mut Random, target: usize, size: Size) -> (usize, Vec<TableEdge>) {
     loop {
-        if let Some(found) = try_chart(random, target) {
-            return found;
+        let (steps, links) = size(random);
+        if let Some(edges) = try_chart(random, target, steps, links) {
+            return (steps, edges);
         }
     }
 }
 
-fn try_chart(random: &mut Random, target: usize) -> Option<(usize, Vec<TableEdge>)> {
-    let steps = random.between(8, STEPS);
-    let links = random.between(6, steps - 1);
+fn try_chart(random: &mut Random, target: usize, steps: usize, links: usize) -> Option<Vec<TableEdge>> {
     let most = random.pick(&[1, 1, 2, 4]);
     let mut row = vec![0];
     let mut ends = Vec::new();
@@ -70,7 +93,7 @@ fn try_chart(random: &mut Random, target: usize) -> Option<(usize, Vec<TableEdge
         left = left.checked_sub(points(low, high, &row))?;
         ends.push((low, high));
     }
-    (left == 0).then(|| (steps, number_edges(random, steps, &row, &ends)))
+    (left == 0).then(|| number_edges(random, steps, &row, &ends))
 }
 
 /// Chain edges keep the chain's gap; any gap that fits will do for the others, which may be soft too.
