@@ -22,12 +22,17 @@ pub fn read(call: &str, bytes: &[u8], stored: bool) -> Result<Table, Refusal> {
     }
 }
 
+/// Limits of which one is the old one.
+pub const OLD_STEPS: Limits = Limits { steps: OLD_LIMITS.steps, ..LIMITS };
+pub const OLD_EDGES: Limits = Limits { edges: OLD_LIMITS.edges, ..LIMITS };
+
 fn limits_of(call: &str, by_old_rule: bool) -> Limits {
     let right = wrong_forms::limits(by_old_rule);
-    if on_with("old-limits-", call) {
-        return Limits { rule: right.rule, ..OLD_LIMITS };
+    let kept = [("old-steps-", OLD_STEPS), ("old-edges-", OLD_EDGES)];
+    match kept.into_iter().find(|(start, _)| on_with(start, call)) {
+        Some((_, limits)) => Limits { rule: right.rule, ..limits },
+        None => right,
     }
-    right
 }
 
 /// Either call that writes has the variant of both.

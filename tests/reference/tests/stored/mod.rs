@@ -2,9 +2,12 @@
 
 /// Each table with what `chart` prints for it.
 pub fn charts() -> Vec<(Vec<u8>, String)> {
-    let files =
-        [include_str!("../../../chart.txt"), include_str!("../../../soft.txt"), include_str!("../../../forms.txt")];
-    read_lines(&files.concat())
+    ["chart.txt", "soft.txt", "forms.txt", "bigger.txt"].iter().flat_map(|name| read_lines(&read_file(name))).collect()
+}
+
+fn read_file(name: &str) -> String {
+    let path = format!("{}/../{name}", env!("CARGO_MANIFEST_DIR"));
+    std::fs::read_to_string(path).unwrap_or_else(|error| panic!("{name}: {error}"))
 }
 
 /// Tables with the lines that are due.

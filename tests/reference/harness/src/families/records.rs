@@ -111,6 +111,7 @@ const STEP_COUNTS: [usize; 13] = [
 pub fn limits(judge: &mut Judge, random: &mut Random, group: usize) {
     if group == 0 {
         cut_words(judge);
+        highest_rows(judge);
     }
     for count in RECORD_COUNTS {
         let steps = random.pick(&[2, 3, OLD_STEPS, STEPS]);
@@ -134,6 +135,14 @@ pub fn limits(judge: &mut Judge, random: &mut Random, group: usize) {
             record[place] = number;
             judge.judge_records(STEPS, &[[2, 3, 1, 1], record]);
         }
+    }
+}
+
+/// Chains of the largest gaps, about the old limit and the new one.
+fn highest_rows(judge: &mut Judge) {
+    for steps in [OLD_STEPS - 1, OLD_STEPS, OLD_STEPS + 1, STEPS - 1, STEPS] {
+        let records: Vec<Record> = (1..steps).map(|step| [step - 1, step, 4, 1]).collect();
+        judge.judge_records(steps, &records);
     }
 }
 

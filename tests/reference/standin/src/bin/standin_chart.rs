@@ -2,6 +2,7 @@
 
 use host::fault::on;
 use host::wrong_chart::SAMPLE;
+use host::wrong_table::{OLD_EDGES, OLD_STEPS};
 use reference::bounds::longest_table;
 use reference::chart::draw_chart;
 use reference::convert::convert_table;
@@ -23,8 +24,9 @@ fn spoil(input: &[u8]) -> Vec<u8> {
         let converted = convert_table(input);
         return if converted.starts_with(b"refused") { converted } else { print_chart(&converted) };
     }
-    if on("print-old-limits") {
-        if let Err(refusal) = read_within(judged_bytes(input), &OLD_LIMITS) {
+    let kept = [("print-old-steps", OLD_STEPS), ("print-old-edges", OLD_EDGES)];
+    for (_, limits) in kept.iter().filter(|(fault, _)| on(fault)) {
+        if let Err(refusal) = read_within(judged_bytes(input), limits) {
             return refusal.line();
         }
     }

@@ -1,6 +1,7 @@
 //! The program `convert` of the stand-in, with its wrong variants.
 
 use host::fault::on;
+use host::wrong_table::{OLD_EDGES, OLD_STEPS};
 use reference::bounds::{longest_table, LONGEST};
 use reference::convert::convert_table;
 use reference::loops::lowest_on_loop;
@@ -54,8 +55,9 @@ fn refuse_too_much(bytes: &[u8], table: &Table) -> Option<Refusal> {
     if on("output-new-rule") {
         return read_table(bytes).err();
     }
-    if on("output-old-limits") {
-        return read_within(bytes, &Limits { rule: any_form, ..OLD_LIMITS }).err();
+    let kept = [("output-old-steps", OLD_STEPS), ("output-old-edges", OLD_EDGES)];
+    if let Some((_, limits)) = kept.into_iter().find(|(fault, _)| on(fault)) {
+        return read_within(bytes, &Limits { rule: any_form, ..limits }).err();
     }
     let step = lowest_on_loop(table.steps.len(), &must_edges(&table.edges));
     step.filter(|_| on("output-loop-11")).map(Refusal::Loop)
