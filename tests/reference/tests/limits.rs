@@ -3,6 +3,7 @@
 use reference::bounds::{highest_row, longest_table, LONGEST, LONGEST_STORED, MAX_ROW};
 use reference::calls;
 use reference::chart::draw_chart;
+use reference::points::MAX_POINTS;
 use reference::random::Random;
 use reference::refusal::Refusal;
 use reference::soft::rows_of_table;
@@ -33,7 +34,7 @@ fn chain(steps: usize, edges: usize, gap: u32) -> Draft {
 }
 
 fn refusals(bytes: &[u8]) -> [u64; 6] {
-    let (mut rows, mut order, mut written) = ([0; STEPS], [0; 1024], [0; LONGEST]);
+    let (mut rows, mut order, mut written) = ([0; STEPS], [0; MAX_POINTS], [0; LONGEST]);
     let table = read_table(bytes);
     [
         calls::pack(calls::counts(&table)),
@@ -58,7 +59,7 @@ fn counts_met_and_passed() {
     assert_eq!(counts, (STEPS as u64) << 8 | (EDGES as u64) << 16);
 }
 
-/// Every step in a row of its own, up to the highest: in each call that hands out rows, and in the program on records.
+/// A point in every row, up to the highest: in each call that hands out rows, and in the program on records.
 #[test]
 fn the_highest_row() {
     let draft = chain(STEPS, STEPS - 1, 4);
