@@ -6,4 +6,4 @@ pub mod SearchLaws
 pub mod BoundLaws
 pub mod PlacementLaws
 pub mod DirectedLaws
-pub mod ChainLaws
+pub mod PathLaws

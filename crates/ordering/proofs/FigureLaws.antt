@@ -3,14 +3,14 @@ use mathlib.Core.Path.{_≡_, refl, ap, subst}
 use mathlib.Core.Bool.{Bool, true, false, _&&_, cond}
 use mathlib.Core.List.{List, [], _∷_}
 use Prim.Native.Nat.{ℕ, zero, suc, _+_, _*_, _-_, _≤_, _<_, suc-le-suc}
-use native.Mathlib.Nat.{mul-le-mul-left, mul-comm, zero-lt-suc}
+use native.Mathlib.Nat.{le-trans, mul-le-mul-left, mul-le-mul-right, mul-comm, zero-lt-suc}
 use native.Mathlib.Omega.{arith}
 use borrow.Author.Tests.{leb-true}
 use lib.Dec.{leb}
 use lib.ListN.{length, getD, take}
 use lib.Seq.{getD-take}
 use Rattle.graph.specs.declared.Edge.{Edge}
-use Rattle.graph.specs.Rows.{at, noEdge, total}
+use Rattle.graph.specs.Rows.{at, noEdge, span, total}
 use Rattle.outcome.specs.declared.Refusal.{Refusal}
 use Rattle.outcome.specs.declared.Refusal.the-variants.{ManyPoints, ShortBuffer}
 use Rattle.table.specs.Limits.{maxEdges, maxWeight}
@@ -23,10 +23,11 @@ use Rattle.layering.proofs.CallLaws.{read-oriented}
 use Rattle.rows.specs.Placed.{topRow}
 use Rattle.rows.proofs.PlacedLaws.{best-low}
 use Rattle.ordering.specs.declared.Figures.{Figures}
-use Rattle.points.specs.Points.{pointRows, segments, rowCount}
+use Rattle.points.specs.Points.{between, pointRows, segments, rowCount}
 use Rattle.fewest.specs.Fewest.{bestOrder, drawingOf}
 use Rattle.ordering.specs.Calls.{ChartEnd, pointCount, unlessMany, chartOfTable, charted, chartOut, figuresNumbers, filled, chartEnd, chartCall, DrawnBest, ChartBest}
 use Rattle.ordering.specs.Charting.{Small}
+use Rattle.points.proofs.EdgeLaws.{betweenAll}
 use Rattle.points.proofs.PointLaws.{points-length, segments-length}
 use Rattle.crossings.proofs.CrossingsLaws.{crossings-most}
 use Rattle.fewest.proofs.FewestLaws.{best-crossings}
@@ -65,9 +66,35 @@ total-low (e ∷ edges) y w t h =
       mul-comm w t,
     )
 
--- the bounds in numbers: the largest total and the most crossings that a word for C has to hold
-pub figures-most : (f : Figures) → Small f → (f .total ≤ 27907200) × (f .crossings ≤ 860672)
-figures-most f small = (small .low-total, omega (arith, small .few-crossings))
+-- The lengths of the edges add up to the segments, so the total of a chart is no more than the largest weight for each of them.
+total-segments : (ys : List ℕ) (edges : List Edge) (w : ℕ) → ((i : ℕ) → i < length edges → getD edges i noEdge .weight ≤ w)
+    → total edges (at ys) ≤ w * (length edges + betweenAll ys edges)
+unfolding total betweenAll
+total-segments ys [] w h = omega arith
+total-segments ys (e ∷ edges) w h =
+    let one : span (at ys) e ≤ 1 + between ys e = omega arith in
+    omega (
+      arith,
+      total-segments ys edges w (λ i b. h (suc i) (suc-le-suc b)),
+      mul-le-mul-right (span (at ys) e) (h zero (zero-lt-suc (length edges))),
+      mul-le-mul-left w one,
+    )
+
+pub total-drawn : (ys : List ℕ) (edges : List Edge) → length edges ≤ maxEdges → length (pointRows ys edges) ≤ maxPoints
+    → ((i : ℕ) → i < length edges → getD edges i noEdge .weight ≤ maxWeight) → total edges (at ys) ≤ maxWeight * (maxPoints + maxEdges)
+total-drawn ys edges m p h =
+    let few : length edges + betweenAll ys edges ≤ maxPoints + maxEdges = omega (arith, points-length ys edges) in
+    le-trans (total-segments ys edges maxWeight h) (mul-le-mul-left maxWeight few)
+
+-- the bounds in numbers: the largest total that rows can have, the largest of a chart, and the most crossings
+pub largest-total : maxEdges * (maxWeight * topRow) ≡ 27907200
+largest-total = refl
+
+pub largest-drawn : maxWeight * (maxPoints + maxEdges) ≡ 334560
+largest-drawn = refl
+
+pub most-crossings : (f : Figures) → Small f → f .crossings ≤ 860672
+most-crossings f small = omega (arith, small .few-crossings)
 
 -- figures are told one by one
 figures-same : (f g : Figures) → 0 ∷ figuresNumbers f ≡ 0 ∷ figuresNumbers g → f ≡ g

@@ -10,7 +10,7 @@ use Rattle.graph.specs.Rows.{at, noEdge}
 use Rattle.graph.specs.Search.{rowsOf}
 use Rattle.graph.proofs.BoundLaws.{widest-le}
 use Rattle.graph.proofs.PlacementLaws.{rows-low}
-use Rattle.graph.proofs.ChainLaws.{chain, chain-length, chain-get, chain-top}
+use Rattle.graph.proofs.PathLaws.{path, path-length, path-get, path-top}
 use Rattle.table.specs.Limits.{maxSteps, oldSize, maxGap}
 use Rattle.table.specs.Fair.{FairEdge}
 use Rattle.rows.specs.Placed.{topRow, oldTopRow, FairEdges}
@@ -39,18 +39,18 @@ old-top-row = refl
 
 -- as many steps as there can be, each as far below the one before as a gap can say
 abbrev pub tallest : List Edge
-tallest = chain maxGap 0 (maxSteps - 1)
+tallest = path maxGap 0 (maxSteps - 1)
 
 pub tallest-fair : FairEdges maxSteps tallest
 tallest-fair =
     record {
       few-steps = omega arith;
-      few-edges = omega (arith, chain-length maxGap 0 (maxSteps - 1));
+      few-edges = omega (arith, path-length maxGap 0 (maxSteps - 1));
       each = λ i h.
-          let l : i < maxSteps - 1 = omega (arith, chain-length maxGap 0 (maxSteps - 1)) in
-          subst (FairEdge maxSteps) (sym (chain-get maxGap 0 (maxSteps - 1) i l))
+          let l : i < maxSteps - 1 = omega (arith, path-length maxGap 0 (maxSteps - 1)) in
+          subst (FairEdge maxSteps) (sym (path-get maxGap 0 (maxSteps - 1) i l))
           (record { from-in = omega arith; to-in = omega arith; apart = λ e. omega arith; gap-some = omega arith; gap-low = omega arith; weight-low = omega arith });
     }
 
 pub top-reached : at (rowsOf maxSteps tallest) (maxSteps - 1) ≡ topRow
-top-reached = chain-top maxGap (maxSteps - 1)
+top-reached = path-top maxGap (maxSteps - 1)
