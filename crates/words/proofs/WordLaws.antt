@@ -11,7 +11,7 @@ use Rattle.outcome.specs.Refusal.{numbersOf, stepOf, refusalIn}
 use Rattle.ordering.specs.declared.Figures.{Figures}
 use Rattle.ordering.specs.Calls.{figuresNumbers, ChartBest}
 use Rattle.ordering.specs.Charting.{Small}
-use Rattle.words.specs.Words.{wordSteps, wordEdges, wordNameStart, wordNameLength, wordPoints, wordTotal, wordCrossings, wordWritten, wordRead, doneRead, writtenRead, countsRead, nameRead, chartRead, second, doneWord, countsWord, nameWord, chartWord}
+use Rattle.words.specs.Words.{wordRefusal, wordSteps, wordEdges, wordNameStart, wordNameLength, wordPoints, wordTotal, wordCrossings, wordWritten, wordRead, doneRead, writtenRead, countsRead, nameRead, chartRead, second, doneWord, countsWord, nameWord, chartWord}
 
 -- ---- refusals
 
@@ -95,10 +95,10 @@ unfolding doneRead
 done-unpacks is = ap doneRead is
 
 module _ (len : ℕ) {w : ℕ} (is : w ≡ doneWord (0 ∷ len ∷ [])) where
-  written-zero : w % 0x100 ≡ 0
+  written-zero : wordRefusal w ≡ 0
   written-zero = omega (arith, is)
 
-  written-rest : w / 0x100 ≡ len
+  written-rest : wordWritten w ≡ len
   written-rest = omega (arith, is)
 
   pub written-unpacks : writtenRead w ≡ 0 ∷ len ∷ []
@@ -106,13 +106,13 @@ module _ (len : ℕ) {w : ℕ} (is : w ≡ doneWord (0 ∷ len ∷ [])) where
   written-unpacks = rw (written-zero, written-rest)
 
 module _ (steps edges : ℕ) (h : steps ≤ maxSteps) {w : ℕ} (is : w ≡ countsWord (0 ∷ steps ∷ edges ∷ [])) where
-  counts-low : w % 0x100 ≡ 0
+  counts-low : wordRefusal w ≡ 0
   counts-low = omega (arith, is)
 
-  counts-first : w / 0x100 % 0x100 ≡ steps
+  counts-first : wordSteps w ≡ steps
   counts-first = omega (arith, is)
 
-  counts-rest : w / 0x10000 ≡ edges
+  counts-rest : wordEdges w ≡ edges
   counts-rest = omega (arith, is)
 
   pub counts-unpacks : countsRead w ≡ 0 ∷ steps ∷ edges ∷ []
@@ -120,13 +120,13 @@ module _ (steps edges : ℕ) (h : steps ≤ maxSteps) {w : ℕ} (is : w ≡ coun
   counts-unpacks = rw (counts-low, counts-first, counts-rest)
 
 module _ (start len : ℕ) (h : len ≤ maxName) {w : ℕ} (is : w ≡ nameWord (0 ∷ start ∷ len ∷ [])) where
-  name-low : w % 0x100 ≡ 0
+  name-low : wordRefusal w ≡ 0
   name-low = omega (arith, is)
 
-  name-first : w / 0x100 % 0x100 ≡ len
+  name-first : wordNameLength w ≡ len
   name-first = omega (arith, is)
 
-  name-rest : w / 0x10000 ≡ start
+  name-rest : wordNameStart w ≡ start
   name-rest = omega (arith, is)
 
   pub name-unpacks : nameRead w ≡ 0 ∷ start ∷ len ∷ []
@@ -134,16 +134,16 @@ module _ (start len : ℕ) (h : len ≤ maxName) {w : ℕ} (is : w ≡ nameWord 
   name-unpacks = rw (name-low, name-first, name-rest)
 
 module _ (f : Figures) (small : Small f) {w : ℕ} (is : w ≡ chartWord (0 ∷ figuresNumbers f)) where
-  chart-low : w % 0x100 ≡ 0
+  chart-low : wordRefusal w ≡ 0
   chart-low = omega arith
 
-  chart-points : w / 0x100 % 0x800 ≡ f .points
+  chart-points : wordPoints w ≡ f .points
   chart-points = omega arith
 
-  chart-total : w / 0x80000 % 0x2000000 ≡ f .total
+  chart-total : wordTotal w ≡ f .total
   chart-total = omega arith
 
-  chart-crossings : w / 0x100000000000 ≡ f .crossings
+  chart-crossings : wordCrossings w ≡ f .crossings
   chart-crossings = omega arith
 
   pub chart-unpacks : chartRead w ≡ 0 ∷ figuresNumbers f
