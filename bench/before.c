@@ -2,7 +2,8 @@
 //   before FILE..        the shapes of shapes.c and the stored instances FILE..
 //   before once          rows and charts of the largest shapes once and untimed; prints how many tables each had, and their size
 //
-// bench/before links both libraries, each with the adapters rows_call.c and chart_call.c, and gives the two names of their own.
+// bench/before links both libraries, each with the adapters rows_call.c and chart_call.c, and gives the two names of their own. Where the
+// earlier one has the calls that write tables, WRITES is defined and write_call.c is linked too.
 //
 // An earlier build may take smaller tables only, and up to version 1.3 it hands out rows as bytes. Both are found out by trial: what it
 // refuses for its size is left out, and bytes become entries of 16 bits before two answers are compared, behind the clock. Both builds are
@@ -25,6 +26,33 @@ static void rows_before(const uint8_t *table, size_t length, ChartAnswer *answer
 static void rows_now(const uint8_t *table, size_t length, ChartAnswer *answer) {
   answer->refusal = now_call_rows(table, length, answer->rows, YUVATONDRO_MAX_STEPS);
 }
+
+#ifdef WRITES
+size_t now_write_form(const Instance *inst, Form form, uint8_t *table);
+unsigned before_call_counts(const uint8_t *table, size_t length);
+unsigned now_call_counts(const uint8_t *table, size_t length);
+size_t before_call_write(const uint8_t *table, size_t length, uint8_t *out);
+size_t now_call_write(const uint8_t *table, size_t length, uint8_t *out);
+size_t before_call_convert(const uint8_t *table, size_t length, uint8_t *out);
+size_t now_call_convert(const uint8_t *table, size_t length, uint8_t *out);
+
+static uint8_t out[YUVATONDRO_MAX_STORED];
+
+static void read_before(const uint8_t *table, size_t length, ChartAnswer *answer) { answer->refusal = before_call_counts(table, length); }
+static void read_now(const uint8_t *table, size_t length, ChartAnswer *answer) { answer->refusal = now_call_counts(table, length); }
+
+// What was written goes to the order's place, to be compared there; no shortest form of small steps is longer.
+static void keep_written(size_t written, ChartAnswer *answer) {
+  answer->refusal = written == 0 || written > sizeof answer->order;
+  if (answer->refusal == 0) memcpy(answer->order, out, written);
+}
+static void write_before(const uint8_t *table, size_t length, ChartAnswer *answer) { keep_written(before_call_write(table, length, out), answer); }
+static void write_now(const uint8_t *table, size_t length, ChartAnswer *answer) { keep_written(now_call_write(table, length, out), answer); }
+static void convert_before(const uint8_t *table, size_t length, ChartAnswer *answer) {
+  keep_written(before_call_convert(table, length, out), answer);
+}
+static void convert_now(const uint8_t *table, size_t length, ChartAnswer *answer) { keep_written(now_call_convert(table, length, out), answer); }
+#endif
 
 // ---- what the earlier build takes and hands out ----
 
@@ -78,6 +106,42 @@ static void add_pair(Pairs *p, const Instance *inst) {
   Pair *pair = next_pair(p, inst->name);
   for (int way = 0; way < 2; way++) pair->length[way] = now_write_table(inst, pair->table[way]);
 }
+#ifdef WRITES
+enum { READING, WRITING, CONVERTING, WRITERS, LONG_FORM = 3 };
+static Pairs writers[WRITERS][SIZES];
+
+static void open_writers(int k) {
+  static const struct { const char *name; Call before, now; } calls[WRITERS] = {
+    { "Reading", read_before, read_now }, { "Writing", write_before, write_now }, { "Converting", convert_before, convert_now },
+  };
+  static char names[WRITERS][SIZES][MAX_NAME];
+  for (int w = 0; w < WRITERS; w++) {
+    snprintf(names[w][k], MAX_NAME, "%s %zu/%zu", calls[w].name, node_counts[k], node_counts[k] * EDGES_A_NODE);
+    open_pairs(&writers[w][k], names[w][k], calls[w].before, calls[w].now);
+  }
+}
+// Converted is the same table with each number in three bytes.
+static void add_writers(int k, const Instance *inst) {
+  add_pair(&writers[READING][k], inst);
+  add_pair(&writers[WRITING][k], inst);
+  Pair *pair = next_pair(&writers[CONVERTING][k], inst->name);
+  for (int way = 0; way < 2; way++) pair->length[way] = now_write_form(inst, (Form){ 1, MUST, 0, LONG_FORM }, pair->table[way]);
+}
+static void run_writers(int count) {
+  for (int w = 0; w < WRITERS; w++)
+    for (int k = 0; k < count; k++) run_pairs(&writers[w][k]);
+}
+static void print_writers(int count) {
+  for (int w = 0; w < WRITERS; w++)
+    for (int k = 0; k < count; k++) print_means(&writers[w][k]);
+}
+#else
+static void open_writers(int k) { (void)k; }
+static void add_writers(int k, const Instance *inst) { (void)k, (void)inst; }
+static void run_writers(int count) { (void)count; }
+static void print_writers(int count) { (void)count; }
+#endif
+
 static void make_size(int k) {
   static Instance inst;
   size_t nodes = node_counts[k], edges = nodes * EDGES_A_NODE;
@@ -85,10 +149,12 @@ static void make_size(int k) {
   snprintf(titles[1][k], MAX_NAME, "Charts %zu/%zu", nodes, edges);
   open_pairs(&rows[k], titles[0][k], rows_before, rows_now);
   open_pairs(&charts[k], titles[1][k], before_call_chart, now_call_chart);
+  open_writers(k);
   for (size_t shape = 0; shape < shape_count(); shape++)
     for (int seed = 1; seed <= SEEDS; seed++) {
       make_shape(&inst, shape, nodes, edges, seed);
       add_pair(&rows[k], &inst);
+      add_writers(k, &inst);
       now_cut_to_accepted(&inst);
       add_pair(&charts[k], &inst);
     }
@@ -115,9 +181,11 @@ static void run_all(int count) {
   for (int k = 0; k < count; k++) run_pairs(&rows[k]);
   if (searched.count > 0) run_pairs(&searched);
   for (int k = 0; k < count; k++) run_pairs(&charts[k]);
+  run_writers(count);
   for (int k = 0; k < count; k++) print_means(&rows[k]);
   if (searched.count > 0) print_means(&searched);
   for (int k = 0; k < count; k++) print_means(&charts[k]);
+  print_writers(count);
   printf("Both builds gave the same answer in every round.\n");
 }
 

@@ -1,5 +1,5 @@
 // The only place that knows how the shortest form of a table is asked for. It is apart from rows_call.c because bench/before links that
-// file to libraries that do not have these calls.
+// file also to libraries that do not have these calls.
 #ifndef WRITE_CALL_H
 #define WRITE_CALL_H
 #include <stddef.h>
