@@ -26,7 +26,7 @@ outcomeBy (Refused r) a = refused r
 abbrev pub topRow : ℕ
 topRow = (maxSteps - 1) * maxGap
 
--- nor was one at the limits that there were before tables grew: each fitted a byte
+-- the same at the limit of steps that there was before tables grew, when each row fitted a byte
 abbrev pub oldTopRow : ℕ
 oldTopRow = (oldSize .steps - 1) * maxGap
 

@@ -75,8 +75,8 @@ tableEdgeAt rule s edition n at =
     andThen (edgeAt rule s n at) λ e p.
     andThen (firmnessAt rule s edition p) λ firmness q. got (tableEdge e (eqb firmness softness)) q
 
--- The count of steps, then the steps. How many steps and edges there may be is a size; all layers read by `maxSize`, and what they
--- read by stands below.
+-- The count of steps, then the steps. How many steps and edges there may be is a size, which only the two counts ask for; every call
+-- reads by `maxSize`, as the last part says.
 unfoldable pub stepsWithin : Size → Rule → List ℕ → ℕ → Read (List Step)
 stepsWithin size rule s at = andThen (numberIn rule 0 (size .steps) ManySteps s at) λ n p. many (stepAt rule s) n p
 
