@@ -14,8 +14,12 @@
 #include <string.h>
 
 unsigned before_call_rows(const uint8_t *table, size_t length, uint16_t *rows, size_t nodes);
+unsigned before_call_records(size_t nodes, const size_t *numbers, size_t count, uint16_t *rows);
+size_t before_call_name(const uint8_t *table, size_t length, size_t step);
 void before_call_chart(const uint8_t *table, size_t length, ChartAnswer *answer);
 unsigned now_call_rows(const uint8_t *table, size_t length, uint16_t *rows, size_t nodes);
+unsigned now_call_records(size_t nodes, const size_t *numbers, size_t count, uint16_t *rows);
+size_t now_call_name(const uint8_t *table, size_t length, size_t step);
 void now_call_chart(const uint8_t *table, size_t length, ChartAnswer *answer);
 size_t now_write_table(const Instance *inst, uint8_t *table);
 void now_cut_to_accepted(Instance *inst);
@@ -25,6 +29,44 @@ static void rows_before(const uint8_t *table, size_t length, ChartAnswer *answer
 }
 static void rows_now(const uint8_t *table, size_t length, ChartAnswer *answer) {
   answer->refusal = now_call_rows(table, length, answer->rows, YUVATONDRO_MAX_STEPS);
+}
+
+// The edges of a table of small steps, as numbers; made before the clock.
+enum { FIELDS = 4, STEP_BYTES = 3 };
+static size_t numbers[YUVATONDRO_MAX_EDGES * FIELDS], number_count;
+
+static size_t read_number(const uint8_t *table, size_t *at) {
+  size_t value = 0;
+  for (int shift = 0;; shift += 7) {
+    uint8_t byte = table[(*at)++];
+    value |= (size_t)(byte & 127) << shift;
+    if (byte < 128) return value;
+  }
+}
+static void read_edges(const uint8_t *table, size_t length) {
+  size_t at = 2 + table[1] * STEP_BYTES;
+  read_number(table, &at);
+  for (number_count = 0; at < length; number_count++) numbers[number_count] = read_number(table, &at);
+}
+static void records_before(const uint8_t *table, size_t length, ChartAnswer *answer) {
+  (void)length;
+  answer->refusal = before_call_records(table[1], numbers, number_count, answer->rows);
+}
+static void records_now(const uint8_t *table, size_t length, ChartAnswer *answer) {
+  (void)length;
+  answer->refusal = now_call_records(table[1], numbers, number_count, answer->rows);
+}
+
+// The name of the last step.
+static void keep_name(size_t start, ChartAnswer *answer) {
+  answer->refusal = start == 0;
+  answer->points = (long)start;
+}
+static void name_before(const uint8_t *table, size_t length, ChartAnswer *answer) {
+  keep_name(before_call_name(table, length, table[1] - 1u), answer);
+}
+static void name_now(const uint8_t *table, size_t length, ChartAnswer *answer) {
+  keep_name(now_call_name(table, length, table[1] - 1u), answer);
 }
 
 #ifdef WRITES
@@ -91,8 +133,8 @@ static void widen_rows(ChartAnswer *answer) {
 
 // ---- tables ----
 
-static Pairs rows[SIZES], charts[SIZES], searched;
-static char titles[2][SIZES][MAX_NAME];
+static Pairs rows[SIZES], charts[SIZES], records[SIZES], names[SIZES], searched;
+static char titles[4][SIZES][MAX_NAME];
 
 static void open_pairs(Pairs *p, const char *title, Call before, Call now) {
   p->title = title;
@@ -114,10 +156,10 @@ static void open_writers(int k) {
   static const struct { const char *name; Call before, now; } calls[WRITERS] = {
     { "Reading", read_before, read_now }, { "Writing", write_before, write_now }, { "Converting", convert_before, convert_now },
   };
-  static char names[WRITERS][SIZES][MAX_NAME];
+  static char writer_titles[WRITERS][SIZES][MAX_NAME];
   for (int w = 0; w < WRITERS; w++) {
-    snprintf(names[w][k], MAX_NAME, "%s %zu/%zu", calls[w].name, node_counts[k], node_counts[k] * EDGES_A_NODE);
-    open_pairs(&writers[w][k], names[w][k], calls[w].before, calls[w].now);
+    snprintf(writer_titles[w][k], MAX_NAME, "%s %zu/%zu", calls[w].name, node_counts[k], node_counts[k] * EDGES_A_NODE);
+    open_pairs(&writers[w][k], writer_titles[w][k], calls[w].before, calls[w].now);
   }
 }
 // Converted is the same table with each number in three bytes.
@@ -147,13 +189,20 @@ static void make_size(int k) {
   size_t nodes = node_counts[k], edges = nodes * EDGES_A_NODE;
   snprintf(titles[0][k], MAX_NAME, "Rows %zu/%zu", nodes, edges);
   snprintf(titles[1][k], MAX_NAME, "Charts %zu/%zu", nodes, edges);
+  snprintf(titles[2][k], MAX_NAME, "Records %zu/%zu", nodes, edges);
+  snprintf(titles[3][k], MAX_NAME, "Names %zu/%zu", nodes, edges);
   open_pairs(&rows[k], titles[0][k], rows_before, rows_now);
   open_pairs(&charts[k], titles[1][k], before_call_chart, now_call_chart);
+  open_pairs(&records[k], titles[2][k], records_before, records_now);
+  records[k].ready = read_edges;
+  open_pairs(&names[k], titles[3][k], name_before, name_now);
   open_writers(k);
   for (size_t shape = 0; shape < shape_count(); shape++)
     for (int seed = 1; seed <= SEEDS; seed++) {
       make_shape(&inst, shape, nodes, edges, seed);
       add_pair(&rows[k], &inst);
+      add_pair(&records[k], &inst);
+      add_pair(&names[k], &inst);
       add_writers(k, &inst);
       now_cut_to_accepted(&inst);
       add_pair(&charts[k], &inst);
@@ -181,10 +230,14 @@ static void run_all(int count) {
   for (int k = 0; k < count; k++) run_pairs(&rows[k]);
   if (searched.count > 0) run_pairs(&searched);
   for (int k = 0; k < count; k++) run_pairs(&charts[k]);
+  for (int k = 0; k < count; k++) run_pairs(&records[k]);
+  for (int k = 0; k < count; k++) run_pairs(&names[k]);
   run_writers(count);
   for (int k = 0; k < count; k++) print_means(&rows[k]);
   if (searched.count > 0) print_means(&searched);
   for (int k = 0; k < count; k++) print_means(&charts[k]);
+  for (int k = 0; k < count; k++) print_means(&records[k]);
+  for (int k = 0; k < count; k++) print_means(&names[k]);
   print_writers(count);
   printf("Both builds gave the same answer in every round.\n");
 }

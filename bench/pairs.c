@@ -19,6 +19,7 @@ static void stop(const Pairs *p, const Pair *pair, const char *way, unsigned ref
 // The answer is wiped, so that each call must write its own.
 static double run_way(const Pairs *p, const Pair *pair, int way, ChartAnswer *answer) {
   memset(answer, 255, sizeof *answer);
+  if (p->ready) p->ready(pair->table[way], pair->length[way]);
   double start = now_us();
   p->call[way](pair->table[way], pair->length[way], answer);
   double end = now_us();

@@ -19,6 +19,7 @@ typedef struct {
 typedef struct {
   const char *title, *way[2];
   Call call[2];
+  void (*ready)(const uint8_t *table, size_t length);  // what is done before the clock with the table of a call; null for nothing
   void (*tidy[2])(ChartAnswer *answer);  // what is done to an answer behind the clock, before the two are compared; null for nothing
   Pair pair[MAX_PAIRS];
   size_t count;

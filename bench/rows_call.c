@@ -39,3 +39,10 @@ size_t write_edition_2(const Instance *g, unsigned firmness, uint8_t *table) {
 unsigned call_rows(const uint8_t *table, size_t length, uint16_t *rows, size_t nodes) {
   return yuvatondro_refusal(yuvatondro_rows(table, length, rows, nodes));
 }
+unsigned call_records(size_t nodes, const size_t *numbers, size_t count, uint16_t *rows) {
+  return yuvatondro_refusal(yuvatondro_records(nodes, numbers, count, rows, nodes));
+}
+size_t call_name(const uint8_t *table, size_t length, size_t step) {
+  uint64_t answer = yuvatondro_name(table, length, step);
+  return yuvatondro_refusal(answer) == 0 ? yuvatondro_name_start(answer) : 0;
+}

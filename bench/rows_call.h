@@ -15,4 +15,10 @@ size_t write_edition_2(const Instance *inst, unsigned firmness, uint8_t *table);
 
 // Rows of a table; 0, or the number of the refusal.
 unsigned call_rows(const uint8_t *table, size_t length, uint16_t *rows, size_t nodes);
+
+// The same of edges that are lent as numbers, four to an edge.
+unsigned call_records(size_t nodes, const size_t *numbers, size_t count, uint16_t *rows);
+
+// The start of a step's name in a table; 0 where it is refused, since no name starts there.
+size_t call_name(const uint8_t *table, size_t length, size_t step);
 #endif
