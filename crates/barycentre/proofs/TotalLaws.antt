@@ -9,20 +9,26 @@ use lib.ListN.{length, drop, set, drop-of-length-le}
 use lib.Seq.{drop-cons}
 use borrow.Author.Count.{below-more}
 use Rattle.graph.specs.Rows.{at}
+use Rattle.table.specs.Limits.{maxEdges}
 use Rattle.buffers.specs.Lists.{sum, Below}
-use Rattle.buffers.proofs.ListLaws.{at-low, hit, set-cases}
-use Rattle.points.specs.Lists.{listed, segmentsAt, Linked}
-use Rattle.points.proofs.ListLaws.{listed-length, listed-turn, listed-end}
+use Rattle.buffers.proofs.ListLaws.{hit, set-cases}
+use Rattle.points.specs.Limits.{maxPoints}
+use Rattle.points.specs.Lists.{listFrom, listed, segmentsAt, Falls, Linked}
+use Rattle.points.proofs.ListLaws.{listed-turn, listed-end}
 use Rattle.barycentre.specs.Flat.{endsIn, endPosition, listTotal}
-use Rattle.barycentre.specs.Bounds.{countLimit, totalLimit, EndsSummable, RowSummable}
+use Rattle.barycentre.specs.Bounds.{maxSum, EndsSummable, RowSummable}
 use Rattle.barycentre.specs.Steps.{Totalled}
 
 -- ---- one list
 
-sum-le : (f : ℕ → ℕ) (bound : ℕ) → ((k : ℕ) → f k ≤ bound) → (l : List ℕ) → sum (map f l) ≤ length l * bound
-unfolding sum
-sum-le f bound low [] = zero-le
-sum-le f bound low (k ∷ l) = omega (arith, low k, sum-le f bound low l)
+-- what a function gives for the segments of a list, added up, where it gives at most `bound` for each
+list-le : (f : ℕ → ℕ) (bound : ℕ) {next : List ℕ} → Falls next → ((k : ℕ) → k < length next → f k ≤ bound) → (n h : ℕ) → h ≤ length next
+    → sum (map f (listFrom n next h)) ≤ length (listFrom n next h) * bound
+unfolding sum listFrom
+list-le f bound falls low zero h l = zero-le
+list-le f bound falls low (suc n) zero l = zero-le
+list-le f bound {next} falls low (suc n) (suc k) l =
+    omega (arith, low k (omega arith), list-le f bound falls low n (at next k) (omega (arith, falls .falls k (omega arith))))
 
 -- The sum so far and that of the rest of the list make up the whole.
 pub record Summing (next far pos : List ℕ) (h total link : ℕ) : Type 0 where
@@ -33,12 +39,12 @@ pub summing-start : (next far pos : List ℕ) (h : ℕ) → h ≤ length next �
 summing-start next far pos h l = record { within = l; whole = omega arith }
 
 module _ {next far pos : List ℕ} (e : EndsSummable next far pos) where
-  -- a list has at most one position a segment
-  pub list-low : (h : ℕ) → h ≤ length next → listTotal next far pos h < totalLimit
+  -- a list has at most one position an edge
+  pub list-low : (h : ℕ) → h ≤ length next → length (listed next h) ≤ maxEdges → listTotal next far pos h ≤ maxSum
   unfolding listTotal
-  list-low h l =
-      let low : (k : ℕ) → endPosition far pos k ≤ countLimit = λ k. omega (arith, at-low countLimit pos (omega arith) (e .low) (at far k)) in
-      omega (arith, sum-le (endPosition far pos) countLimit low (listed next h), listed-length next h, e .one-each, e .few)
+  list-low h l few =
+      let low : (k : ℕ) → k < length next → endPosition far pos k ≤ maxPoints - 1 = λ k b. omega (arith, e .low k (omega (arith, e .one-each))) in
+      omega (arith, list-le (endPosition far pos) (maxPoints - 1) (e .falls) low h h l)
 
   module _ {h total link : ℕ} (s : Summing next far pos h total link) where
     list-turn : 0 < link → listTotal next far pos link ≡ endPosition far pos (link - 1) + listTotal next far pos (at next (link - 1))
@@ -64,8 +70,8 @@ module _ {next far pos : List ℕ} (e : EndsSummable next far pos) where
       whole = omega (arith, s .whole, list-turn a);
     }
 
-    pub summing-low : h ≤ length next → 0 < link → total + endPosition far pos (link - 1) < totalLimit
-    summing-low l a = omega (arith, list-low h l, s .whole, list-turn a)
+    pub summing-low : h ≤ length next → length (listed next h) ≤ maxEdges → 0 < link → total + endPosition far pos (link - 1) ≤ maxSum
+    summing-low l few a = omega (arith, list-low h l few, s .whole, list-turn a)
 
     pub summing-end : link ≤ 0 → total ≡ listTotal next far pos h
     unfolding listTotal sum
@@ -100,9 +106,10 @@ module _ {row head next far pos : List ℕ} where
     totalling-end h = record { each = λ j l. t .each j (omega arith) }
 
   pub totalled-low : {totals sums : List ℕ} → RowSummable row head next far pos totals → Totalled row head next far pos sums
-      → (i : ℕ) → i < length row → at sums (at row i) < totalLimit
+      → (i : ℕ) → i < length row → at sums (at row i) ≤ maxSum
   totalled-low s t i h =
-      omega (arith, t .each i h, list-low (s .ends) (at head (at row i)) (s .heads-in (at row i) (s .headed .below i h)))
+      let b = s .headed .below i h in
+      omega (arith, t .each i h, list-low (s .ends) (at head (at row i)) (s .heads-in (at row i) b) (s .few (at row i) b))
 
 -- ---- the order of a list plays no part
 

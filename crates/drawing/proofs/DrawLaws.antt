@@ -1,7 +1,7 @@
 -- The lists in which a chart is laid can be drawn, and their drawing is that of the chart.
 use mathlib.Core.Path.{_≡_, sym, ap, _∙_, subst}
 use mathlib.Core.List.{List, [], _∷_}
-use Prim.Native.Nat.{ℕ, zero, suc, _+_, _≤_, _<_, suc-le-suc}
+use Prim.Native.Nat.{ℕ, zero, suc, _≤_, suc-le-suc}
 use native.Mathlib.Nat.{zero-lt-suc}
 use native.Mathlib.Numerals.{add-one}
 use native.Mathlib.Omega.{arith}
@@ -20,6 +20,7 @@ use Rattle.buffers.proofs.WriteLaws.{written-length, written-take}
 use Rattle.points.proofs.EdgeLaws.{edges-length}
 use Rattle.points.proofs.PointLaws.{points-length, segments-length}
 use Rattle.points.proofs.NeighbourLaws.{chart-leads, uppers-in, lowers-in, neighbours}
+use Rattle.points.proofs.FewEndsLaws.{uppers-few, lowers-few}
 use Rattle.passes.proofs.PassLaws.{segments-in}
 use Rattle.fewest.proofs.CompleteLaws.{points-below}
 use Rattle.drawing.proofs.RoomLaws.{zeros-long}
@@ -85,6 +86,9 @@ module _ {ys from to : List ℕ} (d : Drawable ys from to) where
               upper-in = uppers-in ys (edgesBetween from to) leads;
               lower-in = lowers-in ys (edgesBetween from to) leads;
               few = omega (arith, u, few);
+              few-points = d .few-points;
+              few-above = λ p. omega (arith, lowers-few ys (edgesBetween from to) leads p, edges-length from to, d .few-edges);
+              few-below = λ p. omega (arith, uppers-few ys (edgesBetween from to) leads p, edges-length from to, d .few-edges);
               down = λ k h. neighbours ys (edgesBetween from to) leads k (omega (arith, u)) ∙ sym (add-one (at (pointRows ys (edgesBetween from to)) (at (uppers segs) k)));
             };
         few-points = d .few-points;

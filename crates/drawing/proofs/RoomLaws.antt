@@ -3,12 +3,11 @@ use mathlib.Core.Path.{_≡_, refl, sym, ap, _∙_, subst}
 use mathlib.Core.List.{List, _++_, flatten}
 use Prim.Native.Nat.{ℕ, _+_, _-_, _/_, _≤_, _<_}
 use native.Mathlib.Omega.{arith}
-use lib.ListN.{length, take, drop, replicate, length-replicate, getD-replicate, length-append, length-drop}
+use lib.ListN.{length, take, drop, replicate, length-replicate, length-append, length-drop}
 use lib.Seq.{length-take-le, getD-take}
 use Rattle.points.specs.Limits.{maxPoints}
 use Rattle.graph.specs.Rows.{at}
 use Rattle.buffers.specs.Lists.{Below}
-use Rattle.barycentre.specs.Bounds.{countLimit}
 use Rattle.crossings.specs.Tally.{blockSize}
 use Rattle.passes.specs.Laid.{segmentsIn, rowsIn}
 use Rattle.fewest.specs.Fewest.{bestOrder}
@@ -21,10 +20,6 @@ use Rattle.drawing.specs.Rooms.{smallPoints, segmentRoom, Sketched, Room
 
 pub zeros-long : (n k : ℕ) → n ≤ k → n ≤ length (replicate {A = ℕ} k 0)
 zeros-long n k h = subst (λ (x : ℕ). n ≤ x) (sym (length-replicate {A = ℕ} k 0)) h
-
-zeros-low : (n k : ℕ) → 0 < n → Below n (replicate {A = ℕ} k 0)
-zeros-low n k h =
-    record { below = λ i l. let b : i < k = omega (arith, length-replicate {A = ℕ} k 0) in omega (arith, getD-replicate {A = ℕ} k i 0 0 b) }
 
 -- room of one size is room for all that is sketched within its limit
 pub zeros-room : (limit : ℕ) {row upper lower : List ℕ} {count : ℕ} → limit / blockSize < limit → Sketched limit row upper lower count
@@ -40,7 +35,6 @@ zeros-room limit {row} {upper} {count = count} b s =
       before-long = refl;
       saved-long = refl;
       pos-long = z;
-      pos-low = zeros-low countLimit limit (omega arith);
       totals-long = z;
       totals-rows = zeros-long count limit (s .few-rows);
       moved-long = z;
@@ -105,8 +99,6 @@ module _ {row upper lower : List ℕ} {count : ℕ} (s : Sketched maxPoints row 
         first-long = omega (arith, starts-long);
         order-long = r .order-long;
         pos-long = r .pos-long;
-        few = omega (arith, s .few-points);
-        low = r .pos-low;
         same = r .saved-long;
       }
 

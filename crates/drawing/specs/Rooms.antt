@@ -7,7 +7,6 @@ use Rattle.table.specs.Limits.{maxEdges}
 use Rattle.points.specs.Points.{pointRows, segments}
 use Rattle.points.specs.Laying.{edgesBetween}
 use Rattle.buffers.specs.Lists.{Below}
-use Rattle.barycentre.specs.Bounds.{countLimit}
 use Rattle.crossings.specs.Tally.{blockSize}
 use Rattle.fewest.specs.Drafts.{Segmented}
 
@@ -41,7 +40,6 @@ pub record Room (n m count : ℕ) (first order before pos totals moved aboveHead
   pub before-long : length before ≡ length order
   pub saved-long : length saved ≡ length order
   pub pos-long : n ≤ length pos
-  pub pos-low : Below countLimit pos
   pub totals-long : n ≤ length totals
   pub totals-rows : count ≤ length totals
   pub moved-long : n ≤ length moved

@@ -63,7 +63,7 @@ module _ {row upper lower head next : List ℕ} {o : List (List ℕ)} {order fir
         linked = linked;
         heads-long = heads;
         both = g .both;
-        few = omega (arith, g .few);
+        few = g .few;
         upper-in = g .upper-in;
         lower-in = g .lower-in;
         pos-long = h .pos-long;

@@ -1,15 +1,15 @@
 -- A drawing on its way: lists that stand ready, one pass with its look at the crossings, and a pass down with a pass up.
 use mathlib.Core.Path.{_≡_, refl, sym, ap, _∙_, subst}
 use mathlib.Core.List.{List, [], _∷_, flatten, tail}
-use Prim.Native.Nat.{ℕ, zero, suc, _+_, _-_, _≤_, _<_}
+use Prim.Native.Nat.{ℕ, suc, _-_, _≤_}
 use native.Mathlib.Nat.{suc-ne-zero, suc-inj}
 use native.Mathlib.Omega.{arith}
-use lib.ListN.{length, getD, take}
+use lib.ListN.{length, take}
 use lib.Seq.{length-take-le}
 use Rattle.graph.specs.Rows.{at}
 use Rattle.passes.specs.Order.{Direction, downward, upward, turned, pass}
 use Rattle.crossings.specs.Crossings.{crossingPairs, crossings}
-use Rattle.fewest.specs.Fewest.{Drawing, drawn, passCount, bestOrder}
+use Rattle.fewest.specs.Fewest.{Drawing, drawn, bestOrder}
 use Rattle.points.specs.Points.{Segment}
 use Rattle.points.specs.Laying.{uppers, lowers}
 use Rattle.passes.specs.Laid.{segmentsIn, rowsIn, Laid, SegmentEnds, Standing, Changed, ChangedBy}
@@ -23,7 +23,7 @@ use Rattle.passes.proofs.LaidLaws.{points-end, row-part}
 use Rattle.crossings.proofs.PlacingLaws.{crossings-placed}
 use Rattle.judging.proofs.AgreeLaws.{lists-agree}
 use Rattle.fewest.proofs.CountableLaws.{laid-lists, laid-countable}
-use Rattle.fewest.proofs.FewestLaws.{rest-better, rest-kept, rest-end, rest-still}
+use Rattle.fewest.proofs.FewestLaws.{rest-better, rest-kept, rest-still}
 
 -- ---- segments by the lists of their ends
 
@@ -59,7 +59,8 @@ module _ {row upper lower : List ℕ} (g : Segmented row upper lower) where
               near-in = g .lower-in;
               far-in = g .upper-in;
               one-each = g .both;
-              few = omega (arith, g .both, g .few);
+              few-points = g .few-points;
+              few-ends = g .few-above;
               linked = la;
               heads-long = ha;
               counted = ca .each upper;
@@ -70,7 +71,8 @@ module _ {row upper lower : List ℕ} (g : Segmented row upper lower) where
               near-in = g .upper-in;
               far-in = g .lower-in;
               one-each = sym (g .both);
-              few = g .few;
+              few-points = g .few-points;
+              few-ends = g .few-below;
               linked = lb;
               heads-long = hb;
               counted = cb .each lower;

@@ -4,14 +4,16 @@ use mathlib.Core.List.{List, map, flatten}
 use Prim.Native.Nat.{ℕ, suc, _+_, _/_, _≤_, _<_}
 use lib.ListN.{length, take}
 use Rattle.graph.specs.Rows.{at}
+use Rattle.table.specs.Limits.{maxEdges}
+use Rattle.points.specs.Limits.{maxPoints}
 use Rattle.points.specs.Points.{Segment}
 use Rattle.passes.specs.Order.{Direction, downward, results}
 use Rattle.fewest.specs.Fewest.{Drawing, drawn, fewest, bestOrder}
 use Rattle.crossings.specs.Crossings.{crossings}
-use Rattle.buffers.specs.Lists.{Below}
-use Rattle.barycentre.specs.Bounds.{countLimit}
+use Rattle.buffers.specs.Lists.{Below, occurs}
 use Rattle.passes.specs.Laid.{segmentsIn, rowsIn, SegmentEnds, Laid}
 use Rattle.crossings.specs.Tally.{blockSize}
+use Rattle.crossings.specs.Placing.{segmentLimit}
 
 -- What a loop over the passes has left to do: the best so far against the results of the k passes that are left, the next one in
 -- direction d on the order o.
@@ -22,12 +24,16 @@ restFrom ys segs best k d o = fewest (drawn ys segs best) (map (drawn ys segs) (
 abbrev pub bestIn : List ℕ → List ℕ → List ℕ → List ℕ → Drawing
 bestIn row upper lower first = bestOrder (rowsIn first) row (segmentsIn upper lower)
 
--- segments between points of neighbouring rows, one entry for each
+-- Segments between points of neighbouring rows, one entry for each. There are no more points than a chart has, and above and below a point no
+-- more segments than a chart has edges.
 pub record Segmented (row upper lower : List ℕ) : Type 0 where
   pub both : length lower ≡ length upper
   pub upper-in : Below (length row) upper
   pub lower-in : Below (length row) lower
-  pub few : length upper < countLimit
+  pub few : length upper < segmentLimit
+  pub few-points : length row ≤ maxPoints
+  pub few-above : (p : ℕ) → occurs p lower ≤ maxEdges
+  pub few-below : (p : ℕ) → occurs p upper ≤ maxEdges
   pub down : (k : ℕ) → k < length upper → at row (at lower k) ≡ at row (at upper k) + 1
 
 -- room for a list and a count of segments by point, the near end of which that point is
@@ -48,8 +54,6 @@ pub record Roomy (row first order pos saved : List ℕ) : Type 0 where
   pub first-long : 0 < length first
   pub order-long : length row ≤ length order
   pub pos-long : length row ≤ length pos
-  pub few : length row ≤ countLimit
-  pub low : Below countLimit pos
   pub same : length saved ≡ length order
 
 -- Room for the sums and for a row of a pass. A count of crossings takes them too: the row for counts, and the sums for those by block.

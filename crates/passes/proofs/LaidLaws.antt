@@ -14,12 +14,11 @@ use Rattle.graph.specs.Rows.{at}
 use Rattle.points.specs.Positions.{position, rowAt}
 use Rattle.buffers.specs.Lists.{Below, occurs}
 use Rattle.passes.specs.Starts.{start}
-use Rattle.barycentre.specs.Bounds.{countLimit}
 use Rattle.passes.specs.Laid.{stored, Ranked, Laid}
 use Rattle.buffers.proofs.OccursLaws.{row-below, flat-none}
 use Rattle.passes.proofs.FlatLaws.{start-suc, start-end, start-set, start-below, flat-row, flat-set}
 use Rattle.buffers.proofs.ListLaws.{take-slice}
-use Rattle.passes.proofs.PlaceLaws.{stored-length, stored-other, stored-own, stored-below, place-set}
+use Rattle.passes.proofs.PlaceLaws.{stored-length, stored-other, stored-own, place-set}
 
 -- a flat order with another row there
 abbrev pub withRow : List ℕ → List ℕ → ℕ → List ℕ → List ℕ
@@ -111,8 +110,6 @@ put-laid ys count o order first pos h r l now same long =
       ranked = put-ranked ys count o order first (h .ranked) r l now same long;
       pos-long = omega (arith, stored-length 0 now pos, h .pos-long);
       places = place-set pos (stored 0 now pos) ys o r now (rw (h .ranked .rows) l) (h .places) other own;
-      few = h .few;
-      low = stored-below countLimit now pos (omega (arith, row-short ys count o order first (h .ranked) r l, h .few)) (h .low);
     }
   where
     other : (p : ℕ) → p < length ys → at ys p ≢ r → at (stored 0 now pos) p ≡ at pos p

@@ -7,14 +7,13 @@ use Prim.Native.Nat.{ℕ, suc, _+_, _-_, _≤_, _<_}
 use native.Mathlib.Decide.{ℕ-discrete}
 use native.Mathlib.Numerals.{add-one}
 use native.Mathlib.Omega.{arith}
-use lib.Dec.{eqb, ltb}
+use lib.Dec.{eqb}
 use lib.ListN.{length, getD, set, length-set}
 use lib.Seq.{getD-set-same, getD-set-other, slice, slice-cons, slice-empty}
-use borrow.Author.Tests.{eqb-true, eqb-false, ltb-true, ltb-false}
+use borrow.Author.Tests.{eqb-true, eqb-false}
 use Rattle.graph.specs.Rows.{at}
-use Rattle.buffers.proofs.ListLaws.{at-low, set-low}
 use Rattle.points.specs.Positions.{position, place}
-use Rattle.buffers.specs.Lists.{Below, occurs}
+use Rattle.buffers.specs.Lists.{occurs}
 use Rattle.passes.specs.Laid.{stored}
 
 -- ---- storing
@@ -49,21 +48,6 @@ stored-own i (q ∷ row) pos p l e = go (eqb p q) refl e (stored-own (suc i) row
         let here : at (set pos q i) p ≡ i = rw same (getD-set-same pos q i 0 (rw same at l)) in
         omega (arith, stored-other (suc i) row (set pos q i) p (omega arith))
     go false f z ih = ih (omega arith) ∙ omega arith
-
--- no number from n on is stored, where the row ends before n
-pub stored-low : (n i : ℕ) (row pos : List ℕ) → i + length row ≤ n → ((k : ℕ) → at pos k < n) → (k : ℕ) → at (stored i row pos) k < n
-unfolding stored
-stored-low n i [] pos l h k = h k
-stored-low n i (p ∷ row) pos l h k =
-    stored-low n (suc i) row (set pos p i) (omega arith) (set-low n pos p i (omega arith) h) k
-
-pub stored-below : (n : ℕ) (row pos : List ℕ) → length row ≤ n → Below n pos → Below n (stored 0 row pos)
-stored-below n row pos l h =
-    record { below = λ k b. go (ltb 0 n) refl k b }
-  where
-    go : (t : Bool) → ltb 0 n ≡ t → (k : ℕ) → k < length (stored 0 row pos) → at (stored 0 row pos) k < n
-    go true e k b = stored-low n 0 row pos (omega arith) (at-low n pos (ltb-true 0 n e) h) k
-    go false e k b = absurd (omega (arith, h .below k (omega (arith, stored-length 0 row pos)), ltb-false 0 n e))
 
 -- A row is being stored: what is left to store, from the point at i on, gives the whole.
 pub record Storing (order : List ℕ) (a b : ℕ) (pos₀ : List ℕ) (i : ℕ) (pos : List ℕ) : Type 0 where

@@ -15,10 +15,11 @@ use Rattle.buffers.proofs.ListLaws.{below-higher}
 use Rattle.barycentre.specs.Bounds.{EndsSummable, RowSummable, Known, Ready}
 use Rattle.barycentre.specs.Steps.{Totalled}
 use Rattle.passes.specs.Laid.{stored, Ranked, Laid, SegmentEnds, Standing, Changed, ChangedBy}
-use Rattle.barycentre.proofs.CountLaws.{counts-low}
+use Rattle.barycentre.proofs.CountLaws.{counts-low, listed-ends}
 use Rattle.barycentre.proofs.TotalLaws.{totalled-low, totalled-ends}
 use Rattle.barycentre.proofs.ReorderLaws.{reorder-occurs, reorder-length}
 use Rattle.barycentre.proofs.EndsLaws.{reorder-agree, arranged-is}
+use Rattle.passes.proofs.PositionLaws.{position-low}
 use Rattle.passes.proofs.LaidLaws.{withRow, points-end, points-below, row-part, row-slice, row-rises, row-inside, row-short, put-ranked, put-laid}
 
 -- the settled row
@@ -82,8 +83,7 @@ module _ {far head next counts order first pos totals moved : List ℕ} {count :
         falls = s .ends .linked .falls;
         one-each = s .ends .linked .long ∙ s .ends .one-each;
         far-in = below-higher (s .ends .far-in) (omega (arith, end-is, s .laid .pos-long));
-        few = omega (arith, s .ends .one-each, s .ends .few);
-        low = s .laid .low;
+        low = λ k h. omega (arith, position-low (s .laid) (at far k) (omega (arith, s .ends .far-in .below k h, end-is)), s .ends .few-points, end-is);
       }
 
   module _ {r : ℕ} (l : r < count) where
@@ -101,6 +101,7 @@ module _ {far head next counts order first pos totals moved : List ℕ} {count :
         record {
           ends = ends-summable;
           heads-in = s .ends .linked .heads-in;
+          few = λ p h. omega (arith, listed-ends (s .ends .linked) p h, s .ends .few-ends p);
           headed = row-below (s .laid) l (omega (arith, end-is, s .ends .heads-long));
           room = row-below (s .laid) l (omega (arith, end-is, s .totals-long));
         }
@@ -118,7 +119,7 @@ module _ {far head next counts order first pos totals moved : List ℕ} {count :
               total-in = omega (arith, row-summable .room .below i h);
               count-in = counted;
               total-low = totalled-low row-summable t i h;
-              count-low = counts-low (s .near) far counts (s .ends .few) (s .ends .counted) .below (at (rowAt first order r) i) counted;
+              count-low = counts-low (s .near) far counts (s .ends .few-ends) (s .ends .counted) (at (rowAt first order r) i) counted;
             }
 
     -- the order with the row put in order

@@ -6,12 +6,13 @@ use Prim.Native.Nat.{ℕ, suc, _-_, _≤_, _<_}
 use lib.Dec.{eqb}
 use lib.ListN.{length, getD, take, set}
 use Rattle.graph.specs.Rows.{at}
+use Rattle.table.specs.Limits.{maxEdges}
+use Rattle.points.specs.Limits.{maxPoints}
 use Rattle.points.specs.Points.{Segment}
 use Rattle.points.specs.Positions.{place}
 use Rattle.points.specs.Lists.{Linked}
 use Rattle.buffers.specs.Lists.{Below, occurs}
 use Rattle.barycentre.specs.Flat.{Counts}
-use Rattle.barycentre.specs.Bounds.{countLimit}
 use Rattle.passes.specs.Starts.{start}
 
 -- The order o of points with the rows ys: `count` rows, in which each point stands once, in its own row, and nothing else stands.
@@ -25,13 +26,11 @@ pub record Ranked (ys : List ℕ) (count : ℕ) (o : List (List ℕ)) (order fir
   pub first-long : count < length first
   pub starts : (r : ℕ) → r ≤ count → at first r ≡ start o r
 
--- and with the position of each point; no number there is large
+-- and with the position of each point
 pub record Laid (ys : List ℕ) (count : ℕ) (o : List (List ℕ)) (order first pos : List ℕ) : Type 0 where
   pub ranked : Ranked ys count o order first
   pub pos-long : length ys ≤ length pos
   pub places : (p : ℕ) → p < length ys → at pos p ≡ place ys o p
-  pub few : length ys ≤ countLimit
-  pub low : Below countLimit pos
 
 -- the number of rows: `first` has an entry for each, and one behind the last
 abbrev pub rowsIn : List ℕ → ℕ
@@ -48,12 +47,13 @@ segmentsIn [] lower = []
 segmentsIn (a ∷ upper) lower = record { upper = a; lower = at lower 0 } ∷ segmentsIn upper (tail lower)
 
 -- Segments between n points, by the lists of their near and far ends; and by point a list of those that have it as their near end, and
--- how many they are.
+-- how many they are. There are no more points than a chart has, and no point is the near end of more segments than a chart has edges.
 pub record SegmentEnds (n : ℕ) (near far head next counts : List ℕ) : Type 0 where
   pub near-in : Below n near
   pub far-in : Below n far
   pub one-each : length near ≡ length far
-  pub few : length near < countLimit
+  pub few-points : n ≤ maxPoints
+  pub few-ends : (p : ℕ) → occurs p near ≤ maxEdges
   pub linked : Linked near head next
   pub heads-long : n ≤ length head
   pub counted : Counts near far counts
@@ -77,14 +77,12 @@ pub record Changed (count : ℕ) (change : List ℕ → List (List ℕ) → List
 pub record ChangedBy (far head next counts : List ℕ) (count : ℕ) (change : List ℕ → List ℕ → List (List ℕ) → List (List ℕ)) (first order pos order′ pos′ : List ℕ) : Type 0 where
   pub by : (near : List ℕ) → SegmentEnds (at first count) near far head next counts → Changed count (change near) first order pos order′ pos′
 
--- What positions are stored from: some order in its lists, and room for the positions, of which none is large.
+-- What positions are stored from: some order in its lists, and room for the positions.
 pub record Placeable (count : ℕ) (order first pos : List ℕ) : Type 0 where
   pub ys : List ℕ
   pub o : List (List ℕ)
   pub ranked : Ranked ys count o order first
   pub pos-long : length ys ≤ length pos
-  pub few : length ys ≤ countLimit
-  pub low : Below countLimit pos
 
 -- Whatever order the lists hold, the positions are those of it.
 pub record Positioned (count : ℕ) (order first pos : List ℕ) : Type 0 where

@@ -1,6 +1,7 @@
 pub mod EdgeLaws
 pub mod PointLaws
 pub mod NeighbourLaws
+pub mod FewEndsLaws
 pub mod RowCountLaws
 pub mod ListLaws
 pub mod LinkLaws

@@ -31,7 +31,7 @@ unfoldable pub spanAll : List ℕ → List Edge → ℕ
 spanAll ys [] = 0
 spanAll ys (e ∷ edges) = span (at ys) e + spanAll ys edges
 
-leads-tail : {ys : List ℕ} {e : Edge} {edges : List Edge} → AllLead ys (e ∷ edges) → AllLead ys edges
+pub leads-tail : {ys : List ℕ} {e : Edge} {edges : List Edge} → AllLead ys (e ∷ edges) → AllLead ys edges
 leads-tail l = record { leads = λ i h. l .leads (suc i) (suc-le-suc h) }
 
 spans : (ys : List ℕ) (edges : List Edge) → AllLead ys edges → length edges + betweenAll ys edges ≡ spanAll ys edges

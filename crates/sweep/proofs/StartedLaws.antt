@@ -46,7 +46,7 @@ module _ {row first₀ order₀ pos₀ saved₀ first order : List ℕ} (r : Roo
 
   pub started-placeable : Placeable (rowsIn first) order first pos₀
   started-placeable =
-      record { ys = row; o = startOrder (rowsIn first) row; ranked = started-ranked; pos-long = r .pos-long; few = r .few; low = r .low }
+      record { ys = row; o = startOrder (rowsIn first) row; ranked = started-ranked; pos-long = r .pos-long }
 
   module _ {upper lower head next pos : List ℕ} (g : Segmented row upper lower) (linked : Linked upper head next) (heads : length row ≤ length head)
       (p : Positioned (rowsIn first) order first pos) where
