@@ -1,5 +1,5 @@
 // Times this build of the library against an earlier one, on tables of edition 1, which both read.
-//   before FILE..        the shapes of shapes.c and the stored instances FILE..
+//   before FILE..        the shapes of shapes.c, charts with the widest rows, and the stored instances FILE..
 //   before once          rows and charts of the largest shapes once and untimed; prints how many tables each had, and their size
 //
 // bench/before links both libraries, each with the adapters rows_call.c and chart_call.c, and gives the two names of their own. Where the
@@ -133,7 +133,7 @@ static void widen_rows(ChartAnswer *answer) {
 
 // ---- tables ----
 
-static Pairs rows[SIZES], charts[SIZES], records[SIZES], names[SIZES], searched;
+static Pairs rows[SIZES], charts[SIZES], records[SIZES], names[SIZES], searched, wide;
 static char titles[4][SIZES][MAX_NAME];
 
 static void open_pairs(Pairs *p, const char *title, Call before, Call now) {
@@ -219,6 +219,18 @@ static int read_stored(int files, char **paths) {
   return 1;
 }
 
+// Charts with the widest rows, where comparing means is most of the work.
+static void make_wides(void) {
+  static const size_t hub_counts[] = { 1, 2, 4, 8, 16, 32, YUVATONDRO_MAX_STEPS / 2 };
+  static Instance inst;
+  open_pairs(&wide, "Charts, widest rows", before_call_chart, now_call_chart);
+  for (size_t k = 0; k < sizeof hub_counts / sizeof *hub_counts; k++)
+    for (int seed = 1; seed <= SEEDS; seed++) {
+      make_wide(&inst, hub_counts[k], seed);
+      if (earlier_takes(inst.nodes, inst.edges)) add_pair(&wide, &inst);
+    }
+}
+
 static void run_once(int last) {
   run_pairs_once(&rows[last]);
   run_pairs_once(&charts[last]);
@@ -230,12 +242,14 @@ static void run_all(int count) {
   for (int k = 0; k < count; k++) run_pairs(&rows[k]);
   if (searched.count > 0) run_pairs(&searched);
   for (int k = 0; k < count; k++) run_pairs(&charts[k]);
+  if (wide.count > 0) run_pairs(&wide);
   for (int k = 0; k < count; k++) run_pairs(&records[k]);
   for (int k = 0; k < count; k++) run_pairs(&names[k]);
   run_writers(count);
   for (int k = 0; k < count; k++) print_means(&rows[k]);
   if (searched.count > 0) print_means(&searched);
   for (int k = 0; k < count; k++) print_means(&charts[k]);
+  if (wide.count > 0) print_means(&wide);
   for (int k = 0; k < count; k++) print_means(&records[k]);
   for (int k = 0; k < count; k++) print_means(&names[k]);
   print_writers(count);
@@ -247,6 +261,7 @@ int main(int argc, char **argv) {
   if (count == 0 || files > MAX_PAIRS || shape_count() * SEEDS > MAX_PAIRS) return 2;
   for (int k = 0; k < count; k++) make_size(k);
   if (!read_stored(files, argv + 1 + once)) return 2;
+  make_wides();
   if (once) run_once(count - 1);
   else run_all(count);
   return 0;

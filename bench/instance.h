@@ -20,7 +20,11 @@ typedef struct {
 size_t shape_count(void);
 void make_shape(Instance *inst, size_t shape, size_t nodes, size_t edges, uint64_t seed);
 
-// A number below k, from the sequence that the last shape was made from.
+// Not one of the shapes: as many edges as a table may have, two rows long, from some of so many hubs to some of as many others, so that
+// the row between them is as wide as a row can be, and one hub has as many ends there as a point can have.
+void make_wide(Instance *inst, size_t hubs, uint64_t seed);
+
+// A number below k, from the sequence that the last instance was made from.
 size_t random_below(size_t k);
 
 // stored.c: an instance from a text file: nodes and edges, then from, to, gap and weight of each edge. 0 where the file is not one.

@@ -142,3 +142,11 @@ void make_shape(Instance *g, size_t shape, size_t nodes, size_t edges, uint64_t 
   shuffle(g);
   snprintf(g->name, MAX_NAME, "%s %d", shapes[shape].name, (int)seed);
 }
+void make_wide(Instance *g, size_t hubs, uint64_t seed) {
+  state = seed * 1000003 + hubs;
+  g->nodes = 2 * hubs;
+  for (g->edges = 0; g->edges < YUVATONDRO_MAX_EDGES; g->edges++)
+    g->edge[g->edges] = (Edge){ .from = below(hubs), .to = hubs + below(hubs), .gap = 2, .weight = below(256) };
+  renumber(g);
+  snprintf(g->name, MAX_NAME, "%zu hubs %d", hubs, (int)seed);
+}
