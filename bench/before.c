@@ -219,7 +219,7 @@ static int read_stored(int files, char **paths) {
   return 1;
 }
 
-// Charts with the widest rows, where comparing means is most of the work.
+// Charts with the widest row, between hubs that have many ends in it; a single hub has all.
 static void make_wides(void) {
   static const size_t hub_counts[] = { 1, 2, 4, 8, 16, 32, YUVATONDRO_MAX_STEPS / 2 };
   static Instance inst;

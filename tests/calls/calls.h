@@ -90,5 +90,6 @@ void test_write_call(void);
 void test_convert_call(void);
 void test_counts(void);
 void test_tall_charts(void);
+void test_means(void);
 
 #endif

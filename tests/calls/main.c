@@ -25,6 +25,7 @@ int main(void) {
   test_convert_call();
   test_counts();
   test_tall_charts();
+  test_means();
   printf("host: %d checks, each as expected\n", checks);
   return 0;
 }

@@ -56,14 +56,6 @@ at-low n l h b i = go (decLt i (length l))
     go (yes e) = b .below i e
     go (no d) = rw (List·getD-eq-default l 0 {n = i} (omega arith)) h
 
--- and a small number stored leaves it so
-pub set-low : (n : ℕ) (l : List ℕ) (t v : ℕ) → v < n → ((i : ℕ) → at l i < n) → (i : ℕ) → at (set l t v) i < n
-set-low n [] t v b h i = h i
-set-low n (x ∷ l) zero v b h zero = b
-set-low n (x ∷ l) zero v b h (suc i) = h (suc i)
-set-low n (x ∷ l) (suc t) v b h zero = h zero
-set-low n (x ∷ l) (suc t) v b h (suc i) = set-low n l t v b (λ j. h (suc j)) i
-
 -- ---- parts
 
 -- what stands in a part is low where the part is
