@@ -6,6 +6,7 @@ mod forms;
 mod graphs;
 mod limits;
 mod loops;
+mod means;
 mod old;
 mod points;
 mod records;
@@ -88,6 +89,8 @@ pub const FAMILIES: &[Family] = &[
     endless("tall soft", 120, tall::tall_soft),
     endless("old limits", 200, old::within),
     endless("past old limits", 100, old::past),
+    fixed("largest means", means::LARGEST, means::largest),
+    endless("near means", means::NEAREST, means::near),
     endless("buffers", 400, buffers::all_lengths),
     endless("soft buffers", 200, soft::buffers),
     endless("sparse", 1500, graphs::sparse),

@@ -8,7 +8,7 @@ mod written;
 use std::fmt::Display;
 
 use reference::calls::{counts, hand_out_chart, hand_out_rows, name, pack};
-use reference::chart::{draw_placed, Chart};
+use reference::chart::{draw_chart, draw_placed, Chart};
 use reference::random::Random;
 use reference::refusal::Refusal;
 use reference::soft::{place_table, Placed};
@@ -92,6 +92,14 @@ impl Judge {
             self.judge_placed(bytes, table.and_then(|table| place_table(&table)));
         }
         self.judge_written(bytes);
+        self.sample_listing(bytes);
+    }
+
+    /// The chart call and the program alone, for tables that are new in the order of their points only.
+    pub fn judge_order(&mut self, bytes: &[u8]) {
+        if self.wanted[CHART] {
+            self.judge_chart(bytes, &read_table(bytes).and_then(|table| draw_chart(&table)));
+        }
         self.sample_listing(bytes);
     }
 

@@ -2,6 +2,7 @@
 
 mod drafts;
 mod families;
+mod fans;
 mod faults;
 mod host;
 mod judge;
