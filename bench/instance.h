@@ -21,7 +21,7 @@ size_t shape_count(void);
 void make_shape(Instance *inst, size_t shape, size_t nodes, size_t edges, uint64_t seed);
 
 // Not one of the shapes: as many edges as a table may have, two rows long, from some of so many hubs to some of as many others, so that
-// the row between them is as wide as a row can be, and one hub has as many ends there as a point can have.
+// the row between them is as wide as a row can be. With one hub on each side it has as many ends there as a point can have.
 void make_wide(Instance *inst, size_t hubs, uint64_t seed);
 
 // A number below k, from the sequence that the last instance was made from.

@@ -1,4 +1,4 @@
-/* Means that take large products to compare: charts with a row as wide as there can be, and steps that have all its points as ends. */
+/* Means that take large products to compare: charts with a row as wide as there can be, and steps that share all its points as ends. */
 #include "calls.h"
 
 /* A step above, two below, and a dummy on each edge from the one to the others. */
@@ -69,7 +69,7 @@ static void test_nearest(void) {
   }
 }
 
-/* One step has all ends, the other none. */
+/* One step below has all ends. */
 static void test_all_ends(void) {
   uint16_t rows[ROWS], order[POINTS];
   Edges edges = {{0}, 0};
