@@ -15,7 +15,7 @@ unfolding directedBy
 directed-length flags [] = refl
 directed-length flags (e ∷ edges) = ap suc (directed-length (tail flags) edges)
 
-tail-get : (flags : List Bool) (i : ℕ) → getD (tail flags) i false ≡ getD flags (suc i) false
+pub tail-get : (flags : List Bool) (i : ℕ) → getD (tail flags) i false ≡ getD flags (suc i) false
 tail-get [] i = refl
 tail-get (f ∷ flags) i = refl
 

@@ -20,11 +20,10 @@ pub struct TableEdge {
     pub soft: bool,
 }
 
-// A table's edge as it is, or turned.
-pub fn direct_edge(e: TableEdge, turned: bool) -> Edge
-    ensures { λ r. ⌜ r ≡ directed turned (ownEdge e) ⌝ }
+// An edge as it is, or turned.
+pub fn direct(own: Edge, turned: bool) -> Edge
+    ensures { λ r. ⌜ r ≡ directed turned own ⌝ }
 {
-    let own = own_edge(e);
     if turned {
         return Edge {
             from: own.to,
@@ -34,6 +33,13 @@ pub fn direct_edge(e: TableEdge, turned: bool) -> Edge
         };
     }
     own
+}
+
+// The same of a table's edge.
+pub fn direct_edge(e: TableEdge, turned: bool) -> Edge
+    ensures { λ r. ⌜ r ≡ directed turned (ownEdge e) ⌝ }
+{
+    direct(own_edge(e), turned)
 }
 
 // A table's edge without its firmness.

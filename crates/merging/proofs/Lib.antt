@@ -1,0 +1,13 @@
+-- Laws by subject. A layer above wants FirstLaws, SameLaws and TurnedLaws.
+pub mod AlikeLaws
+pub mod MergedLaws
+pub mod JoinLaws
+pub mod MarkLaws
+pub mod FirstLaws
+pub mod MergingLaws
+pub mod SameLaws
+pub mod TotalLaws
+pub mod TurnedLaws
+pub mod EndsLaws
+pub mod RowsLaws
+pub mod AloneLaws

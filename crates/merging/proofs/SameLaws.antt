@@ -1,0 +1,212 @@
+-- Merged edges ask of rows what the edges do that they stand for, and cost the same: feasible rows, totals and best rows are those of the
+-- edges. It is asked only that edges which are drawn as one are all as they are or all turned.
+use mathlib.Core.Path.{_≡_, refl, sym, ap, _∙_, subst}
+use mathlib.Core.Bool.{Bool, true, false, cond}
+use mathlib.Core.List.{List, [], _∷_}
+use Prim.Native.Nat.{ℕ, zero, suc, _+_, _-_, _≤_, _<_, suc-le-suc}
+use native.Mathlib.Nat.{not-suc-le-zero, le-of-suc-le-suc, zero-lt-suc}
+use native.Mathlib.Omega.{arith}
+use lib.ListN.{length, getD, length-map}
+use Rattle.graph.specs.declared.Edge.{Edge}
+use Rattle.graph.specs.declared.TableEdge.{TableEdge}
+use Rattle.graph.specs.Rows.{noEdge, span, Kept, Feasible}
+use Rattle.graph.specs.Directed.{ownEdge, noTableEdge, directed, directedBy}
+use Rattle.graph.proofs.DirectedLaws.{directed-length, directed-get}
+use Rattle.merging.specs.declared.MergedEdge.{MergedEdge}
+use Rattle.merging.specs.Merged.{noMergedEdge, alike, like, largestGap, merged, asEdge, drawnEdge, drawnEdges, joins}
+use Rattle.merging.specs.Merging.{slotOf}
+use Rattle.merging.proofs.AlikeLaws.{has-ends, alike-self}
+use Rattle.merging.proofs.MergedLaws.{none-not}
+use Rattle.merging.proofs.JoinLaws.{joinings, joinings-one, slot-none, slot-some}
+use Rattle.merging.proofs.FirstLaws.{merged-first}
+
+-- edges that are drawn as one have one flag
+pub record Agreeing (flags : List Bool) (edges : List TableEdge) : Type 0 where
+  pub agree : (i j : ℕ) → i < length edges → j < length edges → alike (getD edges i noTableEdge) (getD edges j noTableEdge) ≡ true
+      → getD flags i false ≡ getD flags j false
+
+-- ---- the ends of a directed edge
+
+-- how far its head is below its tail
+abbrev pub drop-of : (ℕ → ℕ) → Bool → ℕ → ℕ → ℕ
+drop-of y b from to = cond b (y from - y to) (y to - y from)
+
+pub span-of : (y : ℕ → ℕ) (b : Bool) (e : Edge) → span y (directed b e) ≡ drop-of y b (e .from) (e .to)
+span-of y true e = refl
+span-of y false e = refl
+
+pub weight-of : (b : Bool) (e : Edge) → directed b e .weight ≡ e .weight
+weight-of true e = refl
+weight-of false e = refl
+
+-- a gap fits between the ends
+abbrev Fits : (ℕ → ℕ) → Bool → ℕ → ℕ → ℕ → Type 0
+Fits y b from to gap = cond b (y to) (y from) + gap ≤ cond b (y from) (y to)
+
+kept-fits : (y : ℕ → ℕ) (b : Bool) (e : Edge) → Kept y (directed b e) → Fits y b (e .from) (e .to) (e .gap)
+kept-fits y true e k = k
+kept-fits y false e k = k
+
+fits-kept : (y : ℕ → ℕ) (b : Bool) (e : Edge) → Fits y b (e .from) (e .to) (e .gap) → Kept y (directed b e)
+fits-kept y true e k = k
+fits-kept y false e k = k
+
+-- ---- the largest gap of those like an edge
+
+gap-over : (e : TableEdge) (edges : List TableEdge) (i : ℕ) → i < length edges → alike e (getD edges i noTableEdge) ≡ true
+    → getD edges i noTableEdge .gap ≤ largestGap (like e edges)
+unfolding like largestGap
+gap-over e [] i h a = absurd (not-suc-le-zero h)
+gap-over e (d ∷ edges) zero h a = rw a (omega arith)
+gap-over e (d ∷ edges) (suc i) h a = go (alike e d) (gap-over e edges i (le-of-suc-le-suc h) a)
+  where
+    go : (b : Bool) → getD edges i noTableEdge .gap ≤ largestGap (like e edges) → getD edges i noTableEdge .gap ≤ largestGap (cond b (d ∷ like e edges) (like e edges))
+    go true h = omega arith
+    go false h = h
+
+gap-under : (e : TableEdge) (edges : List TableEdge) (most : ℕ)
+    → ((i : ℕ) → i < length edges → alike e (getD edges i noTableEdge) ≡ true → getD edges i noTableEdge .gap ≤ most) → largestGap (like e edges) ≤ most
+unfolding like largestGap
+gap-under e [] most h = omega arith
+gap-under e (d ∷ edges) most h = go (alike e d) refl (gap-under e edges most (λ i l. h (suc i) (suc-le-suc l)))
+  where
+    go : (b : Bool) → alike e d ≡ b → largestGap (like e edges) ≤ most → largestGap (cond b (d ∷ like e edges) (like e edges)) ≤ most
+    go true a ih = omega (arith, ih, h zero (zero-lt-suc (length edges)) a)
+    go false a ih = ih
+
+-- ---- merged edges by number
+
+pub drawn-length : (flags : List Bool) (edges : List MergedEdge) → length (drawnEdges flags edges) ≡ length edges
+unfolding drawnEdges
+drawn-length flags edges = length-map edges (drawnEdge flags)
+
+pub drawn-get : (flags : List Bool) (edges : List MergedEdge) (k : ℕ) → k < length edges
+    → getD (drawnEdges flags edges) k noEdge ≡ drawnEdge flags (getD edges k noMergedEdge)
+unfolding drawnEdges
+drawn-get flags [] k h = absurd (not-suc-le-zero h)
+drawn-get flags (e ∷ edges) zero h = refl
+drawn-get flags (e ∷ edges) (suc k) h = drawn-get flags edges k (le-of-suc-le-suc h)
+
+-- the merged edge that an edge is drawn as
+pub record DrawnAs (edges : List TableEdge) (j : ℕ) : Type 0 where
+  pub place : ℕ
+  pub inside : place < length (merged edges)
+  pub joining : joins (getD edges j noTableEdge) (getD (merged edges) place noMergedEdge) ≡ true
+
+pub drawn-as : (edges : List TableEdge) (j : ℕ) → j < length edges → DrawnAs edges j
+drawn-as edges j h = go (slotOf edge (merged edges)) refl
+  where
+    edge : TableEdge
+    edge = getD edges j noTableEdge
+
+    one : joinings edge (merged edges) ≡ 1
+    one = joinings-one edge edges ∙ ap (λ (b : Bool). cond b 0 1) (none-not edge edges j h (alike-self edge))
+
+    go : (slot : ℕ) → slotOf edge (merged edges) ≡ slot → DrawnAs edges j
+    go zero e = absurd (omega (arith, one, slot-none edge (merged edges) e))
+    go (suc k) e = let s = slot-some edge (merged edges) k e in record { place = k; inside = s .inside; joining = s .joining }
+
+module _ (flags : List Bool) (edges : List TableEdge) (a : Agreeing flags edges) where
+  abbrev lines : List MergedEdge
+  lines = merged edges
+
+  abbrev own : ℕ → Edge
+  own j = directed (getD flags j false) (ownEdge (getD edges j noTableEdge))
+
+  -- an edge has the ends and the flag of a merged edge that it joins, and a gap no larger
+  record Joined (k j : ℕ) : Type 0 where
+    tail : getD lines k noMergedEdge .from ≡ getD edges j noTableEdge .from
+    head : getD lines k noMergedEdge .to ≡ getD edges j noTableEdge .to
+    flag : getD flags (getD lines k noMergedEdge .first) false ≡ getD flags j false
+    gap : getD edges j noTableEdge .gap ≤ getD lines k noMergedEdge .gap
+
+  -- an edge that is like the first of a merged edge joins it
+  first-like : (k j : ℕ) → k < length lines → j < length edges
+      → alike (getD edges (getD lines k noMergedEdge .first) noTableEdge) (getD edges j noTableEdge) ≡ true → Joined k j
+  first-like k j l m h =
+      let f = merged-first edges k l in
+      let first = getD edges (getD lines k noMergedEdge .first) noTableEdge in
+      let e = has-ends (first .from) (first .to) (first .soft) (getD edges j noTableEdge) h in
+      record {
+        tail = ap (λ (x : MergedEdge). x .from) (f .is) ∙ e .tail;
+        head = ap (λ (x : MergedEdge). x .to) (f .is) ∙ e .head;
+        flag = a .agree (getD lines k noMergedEdge .first) j (f .inside) m h;
+        gap = omega (arith, gap-over first edges j m h, ap (λ (x : MergedEdge). x .gap) (f .is));
+      }
+
+  joins-first : (k : ℕ) (e : TableEdge) → k < length lines → joins e (getD lines k noMergedEdge) ≡ alike (getD edges (getD lines k noMergedEdge .first) noTableEdge) e
+  joins-first k e l = ap (λ (x : MergedEdge). joins e x) (merged-first edges k l .is)
+
+  -- ---- feasible rows
+
+  module _ (y : ℕ → ℕ) where
+    pub feasible-merged : Feasible (directedBy flags edges) y → Feasible (drawnEdges flags lines) y
+    feasible-merged kept k h = rw (drawn-get flags lines k inside) (fits-kept y flag (asEdge line) (fits flag refl))
+      where
+        inside : k < length lines
+        inside = omega (arith, drawn-length flags lines)
+
+        line : MergedEdge
+        line = getD lines k noMergedEdge
+
+        flag : Bool
+        flag = getD flags (line .first) false
+
+        edge-fits : (j : ℕ) → j < length edges → alike (getD edges (line .first) noTableEdge) (getD edges j noTableEdge) ≡ true
+            → Fits y flag (line .from) (line .to) (getD edges j noTableEdge .gap)
+        edge-fits j l h =
+            let s = first-like k j inside l h in
+            rw (s .tail, s .head, s .flag)
+            (kept-fits y (getD flags j false) (ownEdge (getD edges j noTableEdge))
+            (subst (Kept y) (directed-get flags edges j l) (kept j (omega (arith, directed-length flags edges)))))
+
+        widest : (most : ℕ) → ((j : ℕ) → j < length edges → alike (getD edges (line .first) noTableEdge) (getD edges j noTableEdge) ≡ true
+            → getD edges j noTableEdge .gap ≤ most) → line .gap ≤ most
+        widest most h = omega (arith, gap-under (getD edges (line .first) noTableEdge) edges most h, ap (λ (x : MergedEdge). x .gap) (merged-first edges k inside .is))
+
+        first-fits : Fits y flag (line .from) (line .to) (getD edges (line .first) noTableEdge .gap)
+        first-fits = edge-fits (line .first) (merged-first edges k inside .inside) (alike-self (getD edges (line .first) noTableEdge))
+
+        fits : (b : Bool) → flag ≡ b → Fits y flag (line .from) (line .to) (line .gap)
+        fits true e =
+            let f = first-fits in
+            rw e (omega (
+              arith,
+              subst (λ (x : Bool). Fits y x (line .from) (line .to) (getD edges (line .first) noTableEdge .gap)) e f,
+              widest (y (line .from) - y (line .to)) (λ j l h. omega (arith, subst (λ (x : Bool). Fits y x (line .from) (line .to) (getD edges j noTableEdge .gap)) e (edge-fits j l h))),
+            ))
+        fits false e =
+            let f = first-fits in
+            rw e (omega (
+              arith,
+              subst (λ (x : Bool). Fits y x (line .from) (line .to) (getD edges (line .first) noTableEdge .gap)) e f,
+              widest (y (line .to) - y (line .from)) (λ j l h. omega (arith, subst (λ (x : Bool). Fits y x (line .from) (line .to) (getD edges j noTableEdge .gap)) e (edge-fits j l h))),
+            ))
+
+    pub merged-feasible : Feasible (drawnEdges flags lines) y → Feasible (directedBy flags edges) y
+    merged-feasible kept j h = rw (directed-get flags edges j inside) (fits-kept y (getD flags j false) (ownEdge (getD edges j noTableEdge)) small)
+      where
+        inside : j < length edges
+        inside = omega (arith, directed-length flags edges)
+
+        as-line : DrawnAs edges j
+        as-line = drawn-as edges j inside
+
+        line : MergedEdge
+        line = getD lines (as-line .place) noMergedEdge
+
+        s : Joined (as-line .place) j
+        s = first-like (as-line .place) j (as-line .inside) inside (sym (joins-first (as-line .place) (getD edges j noTableEdge) (as-line .inside)) ∙ as-line .joining)
+
+        whole : Fits y (getD flags j false) (getD edges j noTableEdge .from) (getD edges j noTableEdge .to) (line .gap)
+        whole =
+            rw (← s .tail, ← s .head, ← s .flag)
+            (kept-fits y (getD flags (line .first) false) (asEdge line)
+            (subst (Kept y) (drawn-get flags lines (as-line .place) (as-line .inside)) (kept (as-line .place) (omega (arith, drawn-length flags lines, as-line .inside)))))
+
+        small : Fits y (getD flags j false) (getD edges j noTableEdge .from) (getD edges j noTableEdge .to) (getD edges j noTableEdge .gap)
+        small = omega (arith, whole, s .gap)
+
+  -- the gap of an edge is no larger than that of what it is drawn as
+  pub gap-drawn : (j : ℕ) → j < length edges → (d : DrawnAs edges j) → getD edges j noTableEdge .gap ≤ getD lines (d .place) noMergedEdge .gap
+  gap-drawn j h d = first-like (d .place) j (d .inside) h (sym (joins-first (d .place) (getD edges j noTableEdge) (d .inside)) ∙ d .joining) .gap

@@ -1,0 +1,37 @@
+-- Each answer by the firmness.
+use mathlib.Core.Path.{refl}
+use borrow.Author.Needs.{needs}
+use Rattle.merging.specs.Merging.{cellOf}
+use Rattle.merging.proofs.places.cell_of.Statement.{statement}
+use Rattle.merging.proofs.places.cell_of.Tie as tie
+
+cast-pair : tie.Need-cast-pair
+cast-pair c = search needs
+
+mul-pair : tie.Need-mul-pair
+mul-pair c = search needs
+
+cast-pair-2 : tie.Need-cast-pair-2
+cast-pair-2 c = search needs
+
+add-pair : tie.Need-add-pair
+add-pair c = search needs
+
+mul-pair-2 : tie.Need-mul-pair-2
+mul-pair-2 c = search needs
+
+add-result : tie.Need-add-result
+add-result c = search needs
+
+returns : tie.Need-returns
+unfolding cellOf
+returns c = simp (c .if1 .taken) refl
+
+returns-2 : tie.Need-returns-2
+unfolding cellOf
+returns-2 c = simp (c .if1 .left) refl
+
+pub cell-of-spec : {M : Type 1} → statement M
+cell-of-spec =
+    tie.close
+    (tie.spec cast-pair mul-pair cast-pair-2 add-pair mul-pair-2 add-result returns returns-2)

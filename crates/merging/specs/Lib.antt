@@ -1,0 +1,3 @@
+-- Repeated edges are one line: document 02, request 6.
+pub mod Merged
+pub mod Merging
