@@ -1,15 +1,26 @@
--- The edges of dummies are among those that were laid.
+-- The numbers that dummies bear are among those of the edges that were laid.
+use mathlib.Core.Path.{_≡_, refl}
 use mathlib.Core.List.{List, [], _∷_, _++_, map}
 use Prim.Native.Nat.{ℕ, zero, suc, _+_, _≤_, _<_}
 use native.Mathlib.Nat.{le-of-suc-le-suc, not-suc-le-zero}
 use native.Mathlib.Omega.{arith}
-use lib.ListN.{length}
+use lib.ListN.{length, getD, length-map}
 use Rattle.graph.specs.declared.Edge.{Edge}
 use Rattle.graph.specs.Rows.{at}
 use Rattle.graph.specs.Search.{run}
+use Rattle.merging.specs.declared.MergedEdge.{MergedEdge}
+use Rattle.merging.specs.Merged.{noMergedEdge}
 use Rattle.points.specs.Points.{Dummy, between, dummies}
 use Rattle.buffers.specs.Lists.{Below}
-use Rattle.lines.specs.Printing.{ownersOf}
+use Rattle.lines.specs.Printing.{numbered, ownersOf}
+use Rattle.lines.proofs.LayLaws.{owners-count}
+
+-- what dummy k bears
+owner-at : (list : List MergedEdge) (ds : List Dummy) (k : ℕ) → k < length ds → at (ownersOf (numbered list ds)) k ≡ getD list (at (ownersOf ds) k) noMergedEdge .first
+unfolding numbered
+owner-at list [] k h = absurd (not-suc-le-zero h)
+owner-at list (d ∷ ds) zero h = refl
+owner-at list (d ∷ ds) (suc k) h = owner-at list ds k (le-of-suc-le-suc h)
 
 -- dummies of edge i in front of others
 owners-more : (n i : ℕ) (rs : List ℕ) (ds : List Dummy) → i < n → Below n (ownersOf ds) → (k : ℕ)
@@ -29,6 +40,12 @@ owners-from n ys i (e ∷ edges) h =
           (owners-from n ys (suc i) edges (omega arith));
     }
 
--- of at most n edges, each dummy's edge has a number below n
-pub owners-below : (n : ℕ) (ys : List ℕ) (edges : List Edge) → length edges ≤ n → Below n (ownersOf (dummies ys 0 edges))
-owners-below n ys edges h = owners-from n ys 0 edges (omega arith)
+-- so the numbers that they bear are among those of the merged edges
+pub owners-below : (n : ℕ) (list : List MergedEdge) (ys : List ℕ) (edges : List Edge)
+    → ((k : ℕ) → k < length edges → getD list k noMergedEdge .first < n) → Below n (ownersOf (numbered list (dummies ys 0 edges)))
+owners-below n list ys edges h =
+    record {
+      below = λ k l.
+          let inside : k < length (dummies ys 0 edges) = omega (arith, owners-count list (dummies ys 0 edges)) in
+          omega (arith, owner-at list (dummies ys 0 edges) k inside, h _ (owners-from (length edges) ys 0 edges (omega arith) .below k (omega (arith, length-map (dummies ys 0 edges) (λ (d : Dummy). d .edge)))));
+    }

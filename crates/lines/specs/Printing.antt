@@ -5,9 +5,9 @@ use mathlib.Core.List.{List, [], _∷_, _++_, map}
 use Prim.Native.Nat.{ℕ, zero, suc, _+_, _≤_, _<_}
 use lib.Dec.{eqb}
 use lib.ListN.{length, getD, take, drop}
-use Rattle.graph.specs.declared.TableEdge.{TableEdge}
 use Rattle.graph.specs.Rows.{at, noEdge}
-use Rattle.graph.specs.Directed.{directedBy}
+use Rattle.merging.specs.declared.MergedEdge.{MergedEdge}
+use Rattle.merging.specs.Merged.{noMergedEdge, drawnEdges}
 use Rattle.table.specs.declared.types.Step.{Step}
 use Rattle.table.specs.Limits.{maxSteps, maxEdges}
 use Rattle.table.specs.Calls.{noStep}
@@ -38,6 +38,10 @@ unfoldable pub linesFrom : (ℕ → List ℕ) → List ℕ → ℕ → ℕ → L
 linesFrom show ys r zero ps = []
 linesFrom show ys r (suc k) ps = lineIn show ys r ps ++ linesFrom show ys (suc r) k (behind ys r ps)
 
+-- dummies of merged edges, each with the number of the first edge that its own stands for
+unfoldable pub numbered : List MergedEdge → List Dummy → List Dummy
+numbered edges ds = map (λ (d : Dummy). record { edge = getD edges (d .edge) noMergedEdge .first; row = d .row }) ds
+
 -- the edges of the dummies, and their rows
 abbrev pub ownersOf : List Dummy → List ℕ
 ownersOf ds = map (λ (d : Dummy). d .edge) ds
@@ -45,18 +49,19 @@ ownersOf ds = map (λ (d : Dummy). d .edge) ds
 abbrev pub dummyRows : List Dummy → List ℕ
 dummyRows ds = map (λ (d : Dummy). d .row) ds
 
--- What laying the dummies asks for: the first m edges of an array, each directed as its flag says, lead down from row to row, and there
--- is room.
-pub record Layable (edges : List TableEdge) (turned : List Bool) (m : ℕ) (ys owners rows : List ℕ) : Type 0 where
-  pub few : m ≤ maxEdges
-  pub long : length edges ≡ maxEdges
+-- What laying the dummies asks for: the first merged edges of an array, so many, each kept or turned as its first edge is, lead down from row
+-- to row, and there is room.
+pub record Layable (list : List MergedEdge) (turned : List Bool) (count : ℕ) (ys owners rows : List ℕ) : Type 0 where
+  pub few : count ≤ maxEdges
+  pub long : length list ≡ maxEdges
   pub flags-long : length turned ≡ maxEdges
-  pub from-in : (i : ℕ) → i < m → getD (directedBy turned (take m edges)) i noEdge .from < length ys
-  pub to-in : (i : ℕ) → i < m → getD (directedBy turned (take m edges)) i noEdge .to < length ys
-  pub down : (i : ℕ) → i < m
-      → at ys (getD (directedBy turned (take m edges)) i noEdge .from) < at ys (getD (directedBy turned (take m edges)) i noEdge .to)
-  pub owners-room : length (dummies ys 0 (directedBy turned (take m edges))) ≤ length owners
-  pub rows-room : length (dummies ys 0 (directedBy turned (take m edges))) ≤ length rows
+  pub firsts : (i : ℕ) → i < count → getD list i noMergedEdge .first < maxEdges
+  pub from-in : (i : ℕ) → i < count → getD (drawnEdges turned (take count list)) i noEdge .from < length ys
+  pub to-in : (i : ℕ) → i < count → getD (drawnEdges turned (take count list)) i noEdge .to < length ys
+  pub down : (i : ℕ) → i < count
+      → at ys (getD (drawnEdges turned (take count list)) i noEdge .from) < at ys (getD (drawnEdges turned (take count list)) i noEdge .to)
+  pub owners-room : length (dummies ys 0 (drawnEdges turned (take count list))) ≤ length owners
+  pub rows-room : length (dummies ys 0 (drawnEdges turned (take count list))) ≤ length rows
 
 -- What printing points asks for: n steps whose names lie in the table, a row and an edge for each dummy, a flag for each edge, and an
 -- order of all points.

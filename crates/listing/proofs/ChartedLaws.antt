@@ -32,7 +32,7 @@ use Rattle.ordering.specs.declared.Figures.{Figures}
 use Rattle.ordering.specs.declared.types.ChartFound.{ChartFound}
 use Rattle.points.specs.Points.{rowCount}
 use Rattle.fewest.specs.Fewest.{drawingOf}
-use Rattle.ordering.specs.Calls.{Placing, pointCount, unlessMany, chartOfTable, Charted, charted, chartOut}
+use Rattle.ordering.specs.Calls.{drawnIn, Placing, pointCount, unlessMany, chartOfTable, Charted, charted, chartOut}
 use Rattle.ordering.specs.Charting.{chartedBy, TableFound}
 
 -- What the arrays and numbers of an accepted table hold: its steps and edges, its rows, and their drawing.
@@ -47,15 +47,16 @@ pub record Opened (bytes : List ℕ) (table : Table) (flags : List Bool) (f : Ch
   pub flags-are : flags ≡ padded maxEdges false (turnedIn (placing .contents))
   pub flags-long : length flags ≡ maxEdges
   pub edges-are : directedBy flags (take (table .m) (table .edges)) ≡ orientedIn (placing .contents)
+  pub own-edges : take (table .m) (table .edges) ≡ placing .contents .edges
   pub edges-long : length (table .edges) ≡ maxEdges
   pub rows-are : take (f .n) (f .rows) ≡ placing .rows
   pub best : Best (length (placing .contents .steps)) (orientedIn (placing .contents)) (placing .rows)
   pub height-is : f .height ≡ rowCount (placing .rows)
-  pub order-is : take (f .points) (f .order) ≡ flatten (drawingOf (placing .rows) (orientedIn (placing .contents)) .order)
-  pub points-are : f .points ≡ pointCount (placing .rows) (orientedIn (placing .contents))
+  pub order-is : take (f .points) (f .order) ≡ flatten (drawingOf (placing .rows) (drawnIn (placing .contents)) .order)
+  pub points-are : f .points ≡ pointCount (placing .rows) (drawnIn (placing .contents))
   pub few-points : f .points ≤ maxPoints
   pub total-is : f .total ≡ total (orientedIn (placing .contents)) (at (placing .rows))
-  pub crossings-are : f .crossings ≡ drawingOf (placing .rows) (orientedIn (placing .contents)) .crossings
+  pub crossings-are : f .crossings ≡ drawingOf (placing .rows) (drawnIn (placing .contents)) .crossings
 
 -- ---- the placing
 
@@ -65,8 +66,8 @@ record Found (bytes : List ℕ) (c : Charted) : Type 0 where
   is : chartOfTable bytes ≡ done placing
   said : read bytes ≡ done (placing .contents)
   rows-found : rowsOfTable bytes ≡ done (placing .rows)
-  few : pointCount (placing .rows) (orientedIn (placing .contents)) ≤ maxPoints
-  holds : c ≡ charted (placing .rows) (orientedIn (placing .contents))
+  few : pointCount (placing .rows) (drawnIn (placing .contents)) ≤ maxPoints
+  holds : c ≡ charted (placing .rows) (orientedIn (placing .contents)) (drawnIn (placing .contents))
 
 never : {X : Type 0} {c : Charted} {r : Refusal} → _≡_ {A = Outcome Charted} (done c) (refused r) → X
 never e = let z : _≡_ {A = ℕ} 0 1 = cc in absurd (omega arith)
@@ -80,7 +81,7 @@ module _ (bytes : List ℕ) (c : Charted) where
   found-of = go (read bytes) refl
     where
       many : (t : Contents) (ys : List ℕ) (b : Bool) → read bytes ≡ done t → tableRowsFound (length (t .steps)) (t .edges) ≡ done ys
-          → leb (pointCount ys (orientedIn t)) maxPoints ≡ b
+          → leb (pointCount ys (drawnIn t)) maxPoints ≡ b
           → done c ≡ chartOut (demand b ManyPoints (done (record { contents = t; rows = ys }))) → Found bytes c
       many t ys true r s p e =
           record {
@@ -95,7 +96,7 @@ module _ (bytes : List ℕ) (c : Charted) where
 
       found : (t : Contents) (o : Outcome (List ℕ)) → read bytes ≡ done t → tableRowsFound (length (t .steps)) (t .edges) ≡ o
           → done c ≡ chartOut (thenDo o (λ ys. unlessMany t ys)) → Found bytes c
-      found t (done ys) r s e = many t ys (leb (pointCount ys (orientedIn t)) maxPoints) r s refl e
+      found t (done ys) r s e = many t ys (leb (pointCount ys (drawnIn t)) maxPoints) r s refl e
       found t (refused g) r s e = never e
 
       go : (o : Outcome Contents) → read bytes ≡ o → done c ≡ chartOut (thenDo o rest) → Found bytes c
@@ -126,10 +127,10 @@ module _ (bytes : List ℕ) (table : Table) (flags : List Bool) (f : ChartFound)
   node-count : f .n ≡ length (t .steps)
   node-count = sym (length-take-le (f .n) (f .rows) (h .handable .storable a .few-rows)) ∙ ap length rows-taken ∙ rows-best .one-a-node
 
-  figures-are : chartedBy f .figures ≡ charted ys (orientedIn t) .figures
+  figures-are : chartedBy f .figures ≡ charted ys (orientedIn t) (drawnIn t) .figures
   figures-are = ap (λ (c : Charted). c .figures) (found .holds)
 
-  points-counted : f .points ≡ pointCount ys (orientedIn t)
+  points-counted : f .points ≡ pointCount ys (drawnIn t)
   points-counted = ap (λ (g : Figures). g .points) figures-are
 
   flags-turned : flags ≡ padded maxEdges false (turnedIn t)
@@ -156,6 +157,7 @@ module _ (bytes : List ℕ) (table : Table) (flags : List Bool) (f : ChartFound)
         flags-are = flags-turned;
         flags-long = ap length flags-turned ∙ padded-long maxEdges false (turnedIn t) few-turned;
         edges-are = edges-directed;
+        own-edges = array-edges bytes table same t (found .said);
         edges-long = array-long bytes table same t (found .said);
         rows-are = rows-taken;
         best = rows-best;

@@ -19,10 +19,12 @@ use Rattle.crossings.specs.Crossings.{crossingsWith, crossingPairs, crossings}
 use Rattle.fewest.specs.Fewest.{drawn, fewest, bestOrder, drawingOf}
 use Rattle.ordering.specs.Calls.{chartOfTable}
 use Rattle.labels.specs.Text.{digits, blanked}
+use Rattle.merging.specs.Merged.{hasEnds, like, noneLike, largestGap, addedWeight, mergedFrom, merged, drawnEdges}
+use Rattle.lines.specs.Printing.{numbered}
 use Rattle.listing.specs.Listing.{rowLines, chartText, listing}
 use Rattle.listing.specs.Starred.{starredListings}
 
 -- each case prints what it says
 pub starred-listings : map (λ (c : Case). listing (c .input)) starredListings ≡ map (λ (c : Case). c .expected) starredListings
-unfolding total run keepsOne keeps sieve extend placements lightest firstLightest widest rowsOf byteAt numberAt numberIn many adjustAt waitAt kindAt nameByteAt nameAt namedAt stepAt endAt edgeBetween edgeAt firmnessAt tableEdgeAt stepsWithin edgesWithin listsWithin tableWithin readWithin mark sweep sweeps reached onLoop firstFrom lowestOnLoop mustOf leads turns standAfter orientedFrom oriented tableRowsFound dummies pointRows chain segmentsFrom segments rowCount sum meanOf insert sortOnto moving fill reorder pointsIn startOrder position place ends settleRow downFrom upFrom results crossingsWith crossingPairs crossings drawn fewest bestOrder drawingOf chartOfTable digits blanked rowLines chartText listing
+unfolding total run keepsOne keeps sieve extend placements lightest firstLightest widest rowsOf byteAt numberAt numberIn many adjustAt waitAt kindAt nameByteAt nameAt namedAt stepAt endAt edgeBetween edgeAt firmnessAt tableEdgeAt stepsWithin edgesWithin listsWithin tableWithin readWithin mark sweep sweeps reached onLoop firstFrom lowestOnLoop mustOf leads turns standAfter orientedFrom oriented tableRowsFound hasEnds like noneLike largestGap addedWeight mergedFrom merged drawnEdges dummies pointRows chain segmentsFrom segments rowCount sum meanOf insert sortOnto moving fill reorder pointsIn startOrder position place ends settleRow downFrom upFrom results crossingsWith crossingPairs crossings drawn fewest bestOrder drawingOf chartOfTable digits blanked numbered rowLines chartText listing
 starred-listings = refl

@@ -1,16 +1,16 @@
 -- No listing is longer than `maxListing`: each number has few digits, each point a short text, and rows and points are few.
-use mathlib.Core.Path.{_≡_, refl, sym, subst}
+use mathlib.Core.Path.{_≡_, refl, sym, ap, subst}
 use mathlib.Core.Bool.{Bool, true, false, cond}
 use mathlib.Core.List.{List, [], _∷_, _++_, map, flatten}
 use Prim.Native.Nat.{ℕ, zero, suc, _+_, _*_, _-_, _≤_, _<_, zero-le}
 use native.Mathlib.Nat.{mul-le-mul-right, add-mul}
 use native.Mathlib.Omega.{arith}
-use borrow.Author.Tests.{ltb-true, leb-true}
+use borrow.Author.Tests.{ltb-true, ltb-false, leb-true}
 use lib.Dec.{ltb, leb}
-use lib.ListN.{length, getD, take, drop, length-append, length-take}
+use lib.ListN.{length, getD, take, drop, length-append, length-take, List·getD-eq-default}
 use Rattle.graph.specs.declared.Edge.{Edge}
+use Rattle.graph.specs.declared.TableEdge.{TableEdge}
 use Rattle.graph.specs.Rows.{at, noEdge, total}
-use Rattle.graph.specs.Search.{run}
 use Rattle.table.specs.declared.types.Kind.{Kind}
 use Rattle.table.specs.declared.types.Kind.the-variants.{Check, Adjust, Wait}
 use Rattle.outcome.specs.declared.Refusal.the-variants.{ManyPoints}
@@ -25,19 +25,24 @@ use Rattle.table.proofs.FairLaws.{read-fair}
 use Rattle.layering.specs.Calls.{tableRowsFound, orientedIn, turnedIn}
 use Rattle.layering.proofs.RankLaws.{ranked-rows}
 use Rattle.layering.proofs.CallLaws.{read-oriented}
+use Rattle.merging.specs.declared.MergedEdge.{MergedEdge}
+use Rattle.merging.specs.Merged.{noMergedEdge, merged}
+use Rattle.merging.proofs.FirstLaws.{merged-first}
 use Rattle.rows.specs.Placed.{topRow, FairEdges}
 use Rattle.rows.proofs.StepLaws.{never}
 use Rattle.ordering.proofs.StepLaws.{chart-of-step}
-use Rattle.points.specs.Points.{Dummy, between, dummies, rowCount}
+use Rattle.points.specs.Points.{Dummy, dummies, rowCount}
 use Rattle.fewest.specs.Fewest.{Drawing, drawingOf}
-use Rattle.ordering.specs.Calls.{Placing, pointCount, unlessMany, chartOfTable}
+use Rattle.ordering.specs.Calls.{drawnIn, Placing, pointCount, unlessMany, chartOfTable}
 use Rattle.fewest.proofs.CompleteLaws.{drawing-rows, drawing-count}
+use Rattle.ordering.proofs.DrawnLaws.{drawn-among}
 use Rattle.ordering.proofs.FigureLaws.{crossings-low, total-low}
 use Rattle.labels.specs.Text.{text, newline, decimal, blanked}
 use Rattle.lines.specs.Lines.{line}
+use Rattle.lines.specs.Printing.{numbered}
 use Rattle.lines.proofs.RefusalLaws.{refusal-short}
 use Rattle.labels.specs.Labels.{kindText, stepText, dummyText}
-use Rattle.listing.specs.Listing.{noDummy, dummySign, pointText, headText, rowLines, chartText, outcomeText, listing}
+use Rattle.listing.specs.Listing.{noDummy, dummySign, pointText, dummiesIn, headText, rowLines, chartText, outcomeText, listing}
 use Rattle.listing.specs.Widths.{headBytes, rowBytes, pointBytes, maxListing}
 use Rattle.labels.proofs.DecimalLaws.{tens, decimal-short}
 use Rattle.rows.proofs.HeightLaws.{rows-top}
@@ -84,36 +89,36 @@ step-short bytes s h =
     rw (length-append (name ++ text "=") (kindText (s .kind)), length-append name (text "="))
     (omega (arith, length-take (s .len) (drop (s .start) bytes), h .short, kind-short (s .kind) (h .kind-in)))
 
--- dummies of edges up to number k
-record Numbered (k : ℕ) (ds : List Dummy) : Type 0 where
+-- dummies that bear numbers up to k
+record LowNumbers (k : ℕ) (ds : List Dummy) : Type 0 where
   low : (j : ℕ) → getD ds j noDummy .edge ≤ k
 
-abbrev onEdge : ℕ → List ℕ → List Dummy
-onEdge i rows = map (λ r. record { edge = i; row = r }) rows
-
-numbered-more : (k i : ℕ) (rows : List ℕ) (ds : List Dummy) → i ≤ k → Numbered k ds → Numbered k (onEdge i rows ++ ds)
-numbered-more k i [] ds h n = n
-numbered-more k i (r ∷ rows) ds h n = record { low = go (numbered-more k i rows ds h n) }
+numbers-low : (k : ℕ) (list : List MergedEdge) → ((i : ℕ) → getD list i noMergedEdge .first ≤ k) → (ds : List Dummy) → LowNumbers k (numbered list ds)
+unfolding numbered
+numbers-low k list h [] = record { low = λ j. zero-le }
+numbers-low k list h (d ∷ ds) = record { low = go (numbers-low k list h ds) }
   where
-    go : Numbered k (onEdge i rows ++ ds) → (j : ℕ) → getD (onEdge i (r ∷ rows) ++ ds) j noDummy .edge ≤ k
-    go m zero = h
+    go : LowNumbers k (numbered list ds) → (j : ℕ) → getD (numbered list (d ∷ ds)) j noDummy .edge ≤ k
+    go m zero = h (d .edge)
     go m (suc j) = m .low j
 
-dummies-numbered : (ys : List ℕ) (i : ℕ) (edges : List Edge) → Numbered (i + length edges) (dummies ys i edges)
-unfolding dummies
-dummies-numbered ys i [] = record { low = λ j. zero-le }
-dummies-numbered ys i (e ∷ edges) =
-    numbered-more (i + length (e ∷ edges)) i (run (suc (at ys (e .from))) (between ys e)) (dummies ys (suc i) edges) (omega arith)
-    (record { low = λ j. omega (arith, dummies-numbered ys (suc i) edges .low j) })
+-- the first edge that a merged edge stands for is one of the table's
+first-low : (edges : List TableEdge) (i : ℕ) → getD (merged edges) i noMergedEdge .first ≤ length edges
+first-low edges i = go (ltb i (length (merged edges))) refl
+  where
+    go : (b : Bool) → ltb i (length (merged edges)) ≡ b → getD (merged edges) i noMergedEdge .first ≤ length edges
+    go true e = omega (arith, merged-first edges i (ltb-true i (length (merged edges)) e) .inside)
+    go false e =
+        omega (arith, ap (λ (x : MergedEdge). x .first) (List·getD-eq-default (merged edges) noMergedEdge {n = i} (ltb-false i (length (merged edges)) e)))
 
 -- a sign and a number
 dummy-length : (turned : Bool) (edge : ℕ) → length (dummyText turned edge) ≡ suc (length (decimal edge))
 dummy-length true edge = refl
 dummy-length false edge = refl
 
--- a point is a step or a dummy; the number of a dummy's edge has at most three digits
+-- a point is a step or a dummy; the number that a dummy bears has at most three digits
 point-short : (bytes : List ℕ) (steps : List Step) (ds : List Dummy) → ((i : ℕ) → i < length steps → FairStep bytes (getD steps i noStep))
-    → Numbered maxEdges ds → (turned : List Bool) (p : ℕ) → length (pointText bytes steps ds turned p) < pointBytes
+    → LowNumbers maxEdges ds → (turned : List Bool) (p : ℕ) → length (pointText bytes steps ds turned p) < pointBytes
 point-short bytes steps ds fair n turned p = go (ltb p (length steps)) refl
   where
     go : (b : Bool) → ltb p (length steps) ≡ b
@@ -138,7 +143,7 @@ record Drawable (bytes : List ℕ) (p : Placing) : Type 0 where
   fair : Fair bytes (p .contents)
   low : (v : ℕ) → at (p .rows) v ≤ topRow
   oriented-fair : FairEdges (length (p .contents .steps)) (orientedIn (p .contents))
-  few : pointCount (p .rows) (orientedIn (p .contents)) ≤ maxPoints
+  few : pointCount (p .rows) (drawnIn (p .contents)) ≤ maxPoints
 
 module _ (bytes : List ℕ) (p : Placing) (h : Drawable bytes p) where
   abbrev steps-of : List Step
@@ -148,10 +153,10 @@ module _ (bytes : List ℕ) (p : Placing) (h : Drawable bytes p) where
   edges-of = orientedIn (p .contents)
 
   abbrev drawing : Drawing
-  drawing = drawingOf (p .rows) edges-of
+  drawing = drawingOf (p .rows) (drawnIn (p .contents))
 
   abbrev show : ℕ → List ℕ
-  show = pointText bytes steps-of (dummies (p .rows) 0 edges-of) (turnedIn (p .contents))
+  show = pointText bytes steps-of (dummiesIn p) (turnedIn (p .contents))
 
   few-rows : rowCount (p .rows) ≤ suc topRow
   few-rows = count-low topRow (p .rows) (h .low)
@@ -165,12 +170,13 @@ module _ (bytes : List ℕ) (p : Placing) (h : Drawable bytes p) where
       )
 
   few-crossings : drawing .crossings < tens 6
-  few-crossings = omega (arith, crossings-low (p .rows) edges-of (h .oriented-fair .few-edges) (h .few))
+  few-crossings = omega (arith, crossings-low (p .rows) (drawnIn (p .contents)) (omega (arith, drawn-among (p .contents) .few, h .oriented-fair .few-edges)) (h .few))
 
   shown-short : (q : ℕ) → length (show q) < pointBytes
   shown-short =
-      point-short bytes steps-of (dummies (p .rows) 0 edges-of) (h .fair .each-step)
-      (record { low = λ j. omega (arith, dummies-numbered (p .rows) 0 edges-of .low j, h .oriented-fair .few-edges) }) (turnedIn (p .contents))
+      point-short bytes steps-of (dummiesIn p) (h .fair .each-step)
+      (numbers-low maxEdges (merged (p .contents .edges)) (λ i. omega (arith, first-low (p .contents .edges) i, h .fair .few-edges)) (dummies (p .rows) 0 (drawnIn (p .contents))))
+      (turnedIn (p .contents))
 
   heading-short : length (headText (length steps-of) (length (p .contents .edges)) (rowCount (p .rows)) (total edges-of (at (p .rows))) (drawing .crossings)) ≤ headBytes
   heading-short =
@@ -180,8 +186,8 @@ module _ (bytes : List ℕ) (p : Placing) (h : Drawable bytes p) where
   -- a line for each row, and each point in one of them
   lines-short : length (rowLines show 0 (drawing .order)) ≤ suc topRow * rowBytes + maxPoints * pointBytes
   lines-short =
-      let rows = drawing-rows (p .rows) edges-of in
-      let points = drawing-count (p .rows) edges-of in
+      let rows = drawing-rows (p .rows) (drawnIn (p .contents)) in
+      let points = drawing-count (p .rows) (drawnIn (p .contents)) in
       omega (arith, few-rows, h .few, rows-short pointBytes show shown-short 0 (drawing .order) (omega (arith, few-rows)))
 
   chart-short : length (chartText bytes p) ≤ maxListing
@@ -198,7 +204,7 @@ module _ (bytes : List ℕ) where
   drawable {p} e = go (read bytes) refl e
     where
       many : (t : Contents) (ys : List ℕ) (b : Bool) → read bytes ≡ done t → tableRowsFound (length (t .steps)) (t .edges) ≡ done ys
-          → leb (pointCount ys (orientedIn t)) maxPoints ≡ b → demand b ManyPoints (done (record { contents = t; rows = ys })) ≡ done p → Drawable bytes p
+          → leb (pointCount ys (drawnIn t)) maxPoints ≡ b → demand b ManyPoints (done (record { contents = t; rows = ys })) ≡ done p → Drawable bytes p
       many t ys true r f l e =
           let fair = read-fair bytes r in
           let is : record { contents = t; rows = ys } ≡ p = cc in
@@ -208,13 +214,13 @@ module _ (bytes : List ℕ) where
             low = λ v. subst (λ (l : List ℕ). at l v ≤ topRow) (sym (ranked-rows (length (t .steps)) (t .edges) f))
                 (rows-top (length (t .steps)) (orientedIn t) (fair .few-steps) (λ i b. read-oriented bytes r .each i b .gap-low) v);
             oriented-fair = read-oriented bytes r;
-            few = leb-true (pointCount ys (orientedIn t)) maxPoints l;
+            few = leb-true (pointCount ys (drawnIn t)) maxPoints l;
           })
       many t ys false r f l e = never (sym e)
 
       found : (t : Contents) (o : Outcome (List ℕ)) → read bytes ≡ done t → tableRowsFound (length (t .steps)) (t .edges) ≡ o
           → thenDo o (λ ys. unlessMany t ys) ≡ done p → Drawable bytes p
-      found t (done ys) r f e = many t ys (leb (pointCount ys (orientedIn t)) maxPoints) r f refl e
+      found t (done ys) r f e = many t ys (leb (pointCount ys (drawnIn t)) maxPoints) r f refl e
       found t (refused g) r f e = never (sym e)
 
       go : (o : Outcome Contents) → read bytes ≡ o

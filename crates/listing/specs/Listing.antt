@@ -3,7 +3,7 @@ use mathlib.Core.Bool.{Bool, false, cond}
 use mathlib.Core.List.{List, [], _∷_, _++_, map}
 use Prim.Native.Nat.{ℕ, suc, _-_}
 use lib.Dec.{ltb}
-use lib.ListN.{length, getD}
+use lib.ListN.{length, getD, take}
 use Rattle.graph.specs.Rows.{at, total}
 use Rattle.table.specs.declared.types.Step.{Step}
 use Rattle.table.specs.Calls.{noStep}
@@ -11,9 +11,12 @@ use Rattle.outcome.specs.Refusal.{Outcome, done, refused}
 use Rattle.points.specs.Points.{Dummy, dummies, rowCount}
 use Rattle.fewest.specs.Fewest.{drawingOf}
 use Rattle.layering.specs.Calls.{orientedIn, turnedIn}
-use Rattle.ordering.specs.Calls.{Placing, chartOfTable}
+use Rattle.merging.specs.declared.MergedEdges.{MergedEdges}
+use Rattle.merging.specs.Merged.{merged, drawnEdges}
+use Rattle.ordering.specs.Calls.{drawnIn, Placing, chartOfTable}
 use Rattle.labels.specs.Text.{text, decimal}
 use Rattle.lines.specs.Lines.{line, refusalText}
+use Rattle.lines.specs.Printing.{numbered}
 use Rattle.labels.specs.Labels.{stepText, dummyText}
 
 -- ---- points
@@ -42,14 +45,22 @@ unfoldable pub rowLines : (ℕ → List ℕ) → ℕ → List (List ℕ) → Lis
 rowLines show r [] = []
 rowLines show r (row ∷ rows) = line (decimal r) (map show row) ++ rowLines show (suc r) rows
 
--- the table's steps and how many edges it has; rows, total, crossings and points are of the edges as they are kept or turned
+-- the dummies of merged edges in an array, each kept or turned as its first edge is
+abbrev pub laidDummies : MergedEdges → List Bool → List ℕ → List Dummy
+laidDummies all turned ys = dummies ys 0 (drawnEdges turned (take (all .count) (all .list)))
+
+-- the dummies of a table's edges as they are drawn, each with the number that the table gives the first of the edges it stands for
+abbrev pub dummiesIn : Placing → List Dummy
+dummiesIn p = numbered (merged (p .contents .edges)) (dummies (p .rows) 0 (drawnIn (p .contents)))
+
+-- the table's steps and how many edges it has; rows and total are of its edges as they are kept or turned, crossings and points of those
+-- that are drawn
 unfoldable pub chartText : List ℕ → Placing → List ℕ
 chartText bytes p =
     let steps = p .contents .steps in
-    let edges = orientedIn (p .contents) in
-    let drawing = drawingOf (p .rows) edges in
-    headText (length steps) (length (p .contents .edges)) (rowCount (p .rows)) (total edges (at (p .rows))) (drawing .crossings)
-    ++ rowLines (pointText bytes steps (dummies (p .rows) 0 edges) (turnedIn (p .contents))) 0 (drawing .order)
+    let drawing = drawingOf (p .rows) (drawnIn (p .contents)) in
+    headText (length steps) (length (p .contents .edges)) (rowCount (p .rows)) (total (orientedIn (p .contents)) (at (p .rows))) (drawing .crossings)
+    ++ rowLines (pointText bytes steps (dummiesIn p) (turnedIn (p .contents))) 0 (drawing .order)
 
 -- ---- the listing
 

@@ -1,5 +1,5 @@
 -- The starred cases of document 01, all of them, as document 02 leaves them; and with the same marks a table in which a soft edge is turned,
--- and one whose firmness there is not.
+-- one whose firmness there is not, and one with three edges between two steps, of which the two must edges are one line.
 use mathlib.Core.List.{List, [], _∷_}
 use Rattle.table.specs.Hex.{hex}
 use Rattle.table.specs.Starred.{Case, case, sample}
@@ -24,4 +24,5 @@ starredListings =
     case (hex "01 02 00 01 41 00 01 42 02 00 01 01 01 01 00 01 01") (text "refused 11 0\n") ∷
     case (hex "02 02 00 01 41 00 01 42 02 00 01 01 01 00 01 00 02 03 01") (text "chart 2 2 3 8 0\n0 A=C\n1 |0 ^1\n2 B=C\n") ∷
     case (hex "02 02 00 01 41 00 01 42 02 00 01 01 01 00 01 00 02 03 02") (text "refused 15\n") ∷
+    case (hex "02 02 00 01 41 00 01 42 03 00 01 01 01 00 00 01 02 03 01 00 01 03 02 00") (text "chart 2 3 4 18 0\n0 A=C\n1 |0 |1\n2 |0 |1\n3 B=C\n") ∷
     []

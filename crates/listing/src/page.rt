@@ -1,8 +1,10 @@
 // The listing of a table, on a page that has room for any.
+use graph::TableEdge;
 use lines::dummies::lay_dummies;
 use lines::put_line;
 use lines::put_refusal;
 use lines::put_rows;
+use merging::merge_edges;
 use ordering::chart_table;
 use ordering::types::ChartFound;
 use outcome::Verdict;
@@ -11,13 +13,15 @@ use table::limits::MAX_EDGES;
 use table::types::Table;
 ghost use mathlib.Core.Path.{_≡_};
 ghost use Prim.Native.Nat.{_≤_};
-ghost use lib.ListN.{length};
+ghost use lib.ListN.{length, take};
 ghost use Rattle.table.specs.Calls.{readCall};
 ghost use Rattle.outcome.specs.declared.Verdict.the-variants.{Accepted};
 ghost use Rattle.buffers.specs.Written.{Stored};
 ghost use Rattle.layering.specs.Calls.{placeCall};
+ghost use Rattle.merging.specs.Merging.{Mergeable, mergedArray};
+ghost use Rattle.lines.specs.Printing.{numbered, ownersOf, dummyRows, Layable};
 ghost use Rattle.ordering.specs.Charting.{TableFound};
-ghost use Rattle.listing.specs.Listing.{listing};
+ghost use Rattle.listing.specs.Listing.{listing, laidDummies};
 ghost use Rattle.listing.specs.Widths.{maxListing};
 
 // The lines that the bytes are to print. Answers how many bytes they have.
@@ -60,7 +64,7 @@ fn print_chart(
     let ys = &found_rows[..n];
     let mut owners = [0usize; MAX_POINTS];
     let mut rows = [0usize; MAX_POINTS];
-    let d = lay_dummies(edges, turned, table.m, ys, &mut owners, &mut rows);
+    let d = lay_merged(edges, turned, table.m, ys, &mut owners, &mut rows);
     let figures = [n, table.m, found.height, found.total, found.crossings];
     let next = put_line(b"chart", &figures, page);
     put_rows(
@@ -75,4 +79,24 @@ fn print_chart(
         page,
         next,
     )
+}
+
+// The dummies of the first m edges of an array as they are drawn: of repeated edges one bears them, with its number. Answers how many there
+// are.
+fn lay_merged(
+    edges: [TableEdge; MAX_EDGES],
+    turned: [bool; MAX_EDGES],
+    m: usize,
+    ys: &[usize],
+    owners: &mut [usize],
+    rows: &mut [usize],
+) -> usize
+    requires { ⌜ Mergeable m edges ⌝ }
+    requires { ⌜ Layable (mergedArray (take m edges) .list) turned (mergedArray (take m edges) .count) (now ys) (now owners) (now rows) ⌝ }
+    ensures { λ r. ⌜ Stored (now (owners .entry)) 0 (ownersOf (numbered (mergedArray (take m edges) .list) (laidDummies (mergedArray (take m edges)) turned (now (ys .entry))))) (now (owners .exit)) r ⌝ }
+    ensures { λ r. ⌜ Stored (now (rows .entry)) 0 (dummyRows (laidDummies (mergedArray (take m edges)) turned (now (ys .entry)))) (now (rows .exit)) r ⌝ }
+{
+    let all = merge_edges(edges, m);
+    let list = all.list;
+    lay_dummies(list, turned, all.count, ys, owners, rows)
 }

@@ -7,6 +7,7 @@ use native.Mathlib.Omega.{arith}
 use lib.Dec.{leb}
 use lib.ListN.{length, take}
 use Rattle.graph.specs.declared.Edge.{Edge}
+use Rattle.graph.specs.declared.TableEdge.{TableEdge}
 use Rattle.graph.specs.Rows.{at, total}
 use Rattle.outcome.specs.declared.Refusal.{Refusal}
 use Rattle.outcome.specs.declared.Refusal.the-variants.{ManyPoints}
@@ -24,26 +25,27 @@ use Rattle.table.proofs.ArrayLaws.{array-steps, array-edges, array-few, array-l
 use Rattle.rows.specs.declared.types.RowsFound.{RowsFound}
 use Rattle.rows.specs.Answers.{rowsBy, totalBy}
 use Rattle.graph.specs.Directed.{directedBy}
-use Rattle.graph.proofs.DirectedLaws.{directed-take}
 use Rattle.buffers.proofs.PaddedLaws.{padded-long}
 use Rattle.acyclic.proofs.OrientedLaws.{turned-length, directed-oriented}
 use Rattle.layering.specs.Calls.{tableRowsFound, rowsOfTable, orientedIn, turnedIn, stepsIn, edgesIn, TablePlaced, flagArray, placeCall}
 use Rattle.layering.proofs.RankLaws.{padded-directs}
 use Rattle.layering.proofs.CallLaws.{read-oriented}
+use Rattle.merging.specs.Merged.{merged, drawnEdges}
 use Rattle.rows.specs.Placed.{outcomeBy}
 use Rattle.ordering.specs.declared.ChartAnswer.{ChartAnswer}
 use Rattle.ordering.specs.declared.types.ChartFound.{ChartFound}
 use Rattle.ordering.specs.declared.types.TableChart.{TableChart}
-use Rattle.ordering.specs.Calls.{Placing, pointCount, unlessMany, chartOfTable, charted, chartOut, chartCall, chartNumbers, ChartBest, ChartArrays, DrawEnd, drawCall, drawEnd}
+use Rattle.ordering.specs.Calls.{Placing, drawnIn, pointCount, unlessMany, chartOfTable, charted, chartOut, chartCall, chartNumbers, ChartBest, ChartArrays, DrawEnd, drawCall, drawEnd}
 use Rattle.ordering.specs.Charting.{RowsGiven, noChart, chartedBy, heldChart, unlessLarge, EdgesFound, TableFound, ChartHandedOut}
+use Rattle.ordering.proofs.DrawnLaws.{drawn-flags}
 use Rattle.ordering.proofs.ChartLaws.{found-refused}
 use Rattle.ordering.proofs.HandLaws.{handed-best}
 
 -- what is handed out of a table whose rows are known
-out-large : (t : Contents) (rows : List ℕ) → chartOut (unlessMany t rows) ≡ unlessLarge rows (orientedIn t)
-out-large t rows = go (leb (pointCount rows (orientedIn t)) maxPoints)
+out-large : (t : Contents) (rows : List ℕ) → chartOut (unlessMany t rows) ≡ unlessLarge rows (orientedIn t) (drawnIn t)
+out-large t rows = go (leb (pointCount rows (drawnIn t)) maxPoints)
   where
-    go : (b : Bool) → chartOut (demand b ManyPoints (done (record { contents = t; rows = rows }))) ≡ demand b ManyPoints (done (charted rows (orientedIn t)))
+    go : (b : Bool) → chartOut (demand b ManyPoints (done (record { contents = t; rows = rows }))) ≡ demand b ManyPoints (done (charted rows (orientedIn t) (drawnIn t)))
     go true = refl
     go false = refl
 
@@ -98,17 +100,22 @@ module _ (bytes : List ℕ) (table : Table) (flags : List Bool) (f : RowsFound) 
       rows-here : rowsOfTable bytes ≡ done (take (stepsIn bytes) (f .rows))
       rows-here = sym (placed .says) ∙ ap (λ u. outcomeBy u (take (stepsIn bytes) (f .rows))) a
 
+      flags-are : flagArray (stepsIn bytes) (contentsOf (read bytes) .edges) (rowsOfTable bytes) ≡ padded maxEdges false (turnedIn (t .contents))
+      flags-are = rw (rows-here, t .outcome) refl
+
       -- the flags direct the table's edges as they are kept or turned
-      table-same : take (table .m) (directedBy flags (table .edges)) ≡ edges-of
+      table-same : directedBy flags (take (table .m) (table .edges)) ≡ edges-of
       table-same =
-          directed-take flags (table .m) (table .edges)
-          ∙ ap (directedBy flags) (array-edges bytes table same (t .contents) (t .outcome))
+          ap (directedBy flags) (array-edges bytes table same (t .contents) (t .outcome))
           ∙ ap (λ b. directedBy b (t .contents .edges)) (set ∙ flags-are)
           ∙ padded-directs (turnedIn (t .contents)) (t .contents .edges)
           ∙ directed-oriented (length (t .contents .steps)) (t .contents .edges)
-        where
-          flags-are : flagArray (stepsIn bytes) (contentsOf (read bytes) .edges) (rowsOfTable bytes) ≡ padded maxEdges false (turnedIn (t .contents))
-          flags-are = rw (rows-here, t .outcome) refl
+
+      -- and so they do those that are drawn
+      drawn-same : drawnEdges flags (merged (take (table .m) (table .edges))) ≡ drawnIn (t .contents)
+      drawn-same =
+          ap (λ (l : List TableEdge). drawnEdges flags (merged l)) (array-edges bytes table same (t .contents) (t .outcome))
+          ∙ ap (λ b. drawnEdges b (merged (t .contents .edges))) (set ∙ flags-are) ∙ drawn-flags (t .contents)
 
       pub flags-long : length flags ≡ maxEdges
       flags-long = ap length set ∙ rw (rows-here, t .outcome) (padded-long maxEdges false (turnedIn (t .contents))
@@ -137,20 +144,23 @@ module _ (bytes : List ℕ) (table : Table) (flags : List Bool) (f : RowsFound) 
             low = placed .low .low a;
           }
 
-      pub table-solved : RowsGiven (table .n) (take (table .m) (directedBy flags (table .edges))) (f .rows) (f .total)
+      pub table-solved : RowsGiven (table .n) (directedBy flags (take (table .m) (table .edges))) (f .rows) (f .total)
       table-solved =
-          subst (λ (k : ℕ). RowsGiven k (take (table .m) (directedBy flags (table .edges))) (f .rows) (f .total)) (steps-same ∙ sym table-n)
+          subst (λ (k : ℕ). RowsGiven k (directedBy flags (take (table .m) (table .edges))) (f .rows) (f .total)) (steps-same ∙ sym table-n)
           (subst (λ (l : List Edge). RowsGiven (stepsIn bytes) l (f .rows) (f .total)) (edges-same ∙ sym table-same) solved-of)
 
-      out-of : chartOut (chartOfTable bytes) ≡ unlessLarge (take (length (t .contents .steps)) (f .rows)) edges-of
+      out-of : chartOut (chartOfTable bytes) ≡ unlessLarge (take (length (t .contents .steps)) (f .rows)) edges-of (drawnIn (t .contents))
       unfolding chartOfTable
       out-of = rw (t .outcome, sym (t .rows-are)) (out-large (t .contents) (take (length (t .contents .steps)) (f .rows)))
 
-      pub table-drawn : (c : ChartFound) → EdgesFound (table .n) (take (table .m) (directedBy flags (table .edges))) (take (table .n) (f .rows)) c → TableFound bytes c
+      pub table-drawn : (c : ChartFound)
+          → EdgesFound (table .n) (directedBy flags (take (table .m) (table .edges))) (drawnEdges flags (merged (take (table .m) (table .edges)))) (take (table .n) (f .rows)) c
+          → TableFound bytes c
       table-drawn c e =
           rw (out-of, t .outcome)
-          (subst (λ (l : List Edge). EdgesFound (length (t .contents .steps)) l (take (length (t .contents .steps)) (f .rows)) c) table-same
-          (subst (λ (k : ℕ). EdgesFound k (take (table .m) (directedBy flags (table .edges))) (take k (f .rows)) c) table-n e))
+          (subst (λ (l : List Edge). EdgesFound (length (t .contents .steps)) l (drawnIn (t .contents)) (take (length (t .contents .steps)) (f .rows)) c) table-same
+          (subst (λ (l : List Edge). EdgesFound (length (t .contents .steps)) (directedBy flags (take (table .m) (table .edges))) l (take (length (t .contents .steps)) (f .rows)) c) drawn-same
+          (subst (λ (k : ℕ). EdgesFound k (directedBy flags (take (table .m) (table .edges))) (drawnEdges flags (merged (take (table .m) (table .edges)))) (take k (f .rows)) c) table-n e)))
 
 -- ---- the whole chart
 

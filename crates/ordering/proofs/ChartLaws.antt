@@ -1,5 +1,5 @@
--- Best rows of fair edges make a chart: each edge leads down by its gap at least, and that is 1 or more. What is drawn from the ends of
--- the edges is the chart of the edges, since gaps and weights play no part in it.
+-- Best rows of fair edges make a chart: each edge leads down by its gap at least, and that is 1 or more. Those that are drawn have the ends
+-- of edges. What is drawn from their ends is their chart, since gaps and weights play no part in it.
 use mathlib.Core.Path.{_≡_, refl, sym, ap, _∙_}
 use mathlib.Core.List.{List, _++_, flatten}
 use Prim.Native.Nat.{ℕ, _≤_, _<_}
@@ -17,6 +17,7 @@ use Rattle.outcome.specs.Refusal.{Outcome, done, refused}
 use Rattle.buffers.specs.Padded.{padded}
 use Rattle.buffers.proofs.PaddedLaws.{padded-long, padded-front, drop-zeros}
 use Rattle.ordering.specs.declared.types.ChartFound.{ChartFound}
+use Rattle.merging.proofs.EndsLaws.{EndsAmong}
 use Rattle.points.specs.Points.{pointRows, rowCount}
 use Rattle.fewest.specs.Fewest.{Drawing, drawingOf}
 use Rattle.drawing.specs.Drawing.{Drawable, DrawnIs}
@@ -79,58 +80,59 @@ padded-over : (k : ℕ) (l : List ℕ) → l ++ drop (length l) (replicate k 0) 
 unfolding padded
 padded-over k l = ap (λ (rest : List ℕ). l ++ rest) (drop-zeros (length l) k)
 
-module _ (n : ℕ) (edges : List Edge) (rows : List ℕ) (sum : ℕ) (s : RowsGiven n edges rows sum) where
+module _ (n : ℕ) (edges : List Edge) (rows : List ℕ) (sum : ℕ) (s : RowsGiven n edges rows sum) (drawn : List Edge) (among : EndsAmong edges drawn) where
   low-at : (v : ℕ) → v < length (take n rows) → at (take n rows) v < maxPoints
   low-at v h =
       let l : v < n = omega (arith, s .best .one-a-node) in
       omega (arith, getD-take n rows v 0 l, s .low v l)
 
-  chart-of : Chart (take n rows) (tails edges) (heads edges)
+  chart-of : Chart (take n rows) (tails drawn) (heads drawn)
   chart-of =
       record {
         few-nodes = omega (arith, s .best .one-a-node, s .fair .few-steps);
-        few-edges = omega (arith, length-map edges (λ (e : Edge). e .from), s .fair .few-edges);
+        few-edges = omega (arith, length-map drawn (λ (e : Edge). e .from), among .few, s .fair .few-edges);
         few-rows = record { below = λ v h. omega (arith, low-at v h) };
-        to-long = length-map edges (λ (e : Edge). e .to) ∙ sym (length-map edges (λ (e : Edge). e .from));
+        to-long = length-map drawn (λ (e : Edge). e .to) ∙ sym (length-map drawn (λ (e : Edge). e .from));
         from-in =
             record {
-              below = λ i h. let l : i < length edges = omega (arith, length-map edges (λ (e : Edge). e .from)) in
-                  omega (arith, tail-at edges i, s .fair .each i l .from-in, s .best .one-a-node);
+              below = λ i h. let l : i < length drawn = omega (arith, length-map drawn (λ (e : Edge). e .from)) in
+                  omega (arith, tail-at drawn i, among .tail i l, s .fair .each (among .source i) (among .inside i l) .from-in, s .best .one-a-node);
             };
         to-in =
             record {
-              below = λ i h. let l : i < length edges = omega (arith, length-map edges (λ (e : Edge). e .to)) in
-                  omega (arith, head-at edges i, s .fair .each i l .to-in, s .best .one-a-node);
+              below = λ i h. let l : i < length drawn = omega (arith, length-map drawn (λ (e : Edge). e .to)) in
+                  omega (arith, head-at drawn i, among .head i l, s .fair .each (among .source i) (among .inside i l) .to-in, s .best .one-a-node);
             };
-        down = λ i h. let l : i < length edges = omega (arith, length-map edges (λ (e : Edge). e .from)) in
-            rw (tail-at edges i, head-at edges i) (omega (arith, s .best .feasible i l, s .fair .each i l .gap-some));
+        down = λ i h. let l : i < length drawn = omega (arith, length-map drawn (λ (e : Edge). e .from)) in
+            rw (tail-at drawn i, head-at drawn i, among .tail i l, among .head i l)
+            (omega (arith, s .best .feasible (among .source i) (among .inside i l), s .fair .each (among .source i) (among .inside i l) .gap-some));
       }
 
-  sizable-ends : Sizable (take n rows) (tails edges) (heads edges)
+  sizable-ends : Sizable (take n rows) (tails drawn) (heads drawn)
   sizable-ends =
       record {
         chart = chart-of;
-        few-edges = omega (arith, length-map edges (λ (e : Edge). e .from), s .fair .few-edges);
+        few-edges = omega (arith, length-map drawn (λ (e : Edge). e .from), among .few, s .fair .few-edges);
         few-rows = record { below = low-at };
       }
 
-  module _ (from to : List ℕ) (ef : from ≡ tails edges) (et : to ≡ heads edges) where
+  module _ (from to : List ℕ) (ef : from ≡ tails drawn) (et : to ≡ heads drawn) where
     pub sizable : Sizable (take n rows) from to
     sizable = rw (ef, et) sizable-ends
 
-    edges-of : edgesBetween from to ≡ edgesBetween (tails edges) (heads edges)
+    edges-of : edgesBetween from to ≡ edgesBetween (tails drawn) (heads drawn)
     edges-of = rw (ef, et)
 
-    drawing-is : drawingOf (take n rows) (edgesBetween from to) ≡ drawingOf (take n rows) edges
-    drawing-is = ap (drawingOf (take n rows)) edges-of ∙ drawing-of-ends (take n rows) edges
+    drawing-is : drawingOf (take n rows) (edgesBetween from to) ≡ drawingOf (take n rows) drawn
+    drawing-is = ap (drawingOf (take n rows)) edges-of ∙ drawing-of-ends (take n rows) drawn
 
     module _ (points : ℕ) (p : points ≡ length (pointRows (take n rows) (edgesBetween from to))) where
-      count-is : points ≡ pointCount (take n rows) edges
-      count-is = p ∙ ap (λ es. length (pointRows (take n rows) es)) edges-of ∙ ap length (any-points (take n rows) edges)
+      count-is : points ≡ pointCount (take n rows) drawn
+      count-is = p ∙ ap (λ es. length (pointRows (take n rows) es)) edges-of ∙ ap length (any-points (take n rows) drawn)
 
-      pub found-many : maxPoints < points → (f : ChartFound) → f ≡ noChart ManyPoints → EdgesFound n edges (take n rows) f
+      pub found-many : maxPoints < points → (f : ChartFound) → f ≡ noChart ManyPoints → EdgesFound n edges drawn (take n rows) f
       found-many h f e =
-          found-refused n edges _ f e (simp (lt-leb (pointCount (take n rows) edges) maxPoints (omega (arith, count-is))))
+          found-refused n edges _ f e (simp (lt-leb (pointCount (take n rows) drawn) maxPoints (omega (arith, count-is))))
 
       -- with few enough points it can be drawn
       pub drawable : points ≤ maxPoints → Drawable (take n rows) from to
@@ -138,7 +140,7 @@ module _ (n : ℕ) (edges : List Edge) (rows : List ℕ) (sum : ℕ) (s : RowsGi
 
       pub found-drawn : (height : ℕ) → height ≡ rowCount (take n rows) → points ≤ maxPoints → (order : List ℕ) (crossings : ℕ)
           → DrawnIs (drawingOf (take n rows) (edgesBetween from to)) (replicate maxPoints 0) order crossings
-          → EdgesFound n edges (take n rows)
+          → EdgesFound n edges drawn (take n rows)
           (record { verdict = Accepted; n = n; rows = rows; height = height; points = points; order = order; total = sum; crossings = crossings })
       found-drawn height e h order crossings d =
           record {
@@ -160,10 +162,10 @@ module _ (n : ℕ) (edges : List Edge) (rows : List ℕ) (sum : ℕ) (s : RowsGi
           }
         where
           drawn-order : List ℕ
-          drawn-order = flatten (drawingOf (take n rows) edges .order)
+          drawn-order = flatten (drawingOf (take n rows) drawn .order)
 
           all : length drawn-order ≡ points
-          all = drawing-count (take n rows) edges ∙ sym count-is
+          all = drawing-count (take n rows) drawn ∙ sym count-is
 
           padded-order : order ≡ padded maxPoints 0 drawn-order
           padded-order =
@@ -176,16 +178,16 @@ module _ (n : ℕ) (edges : List Edge) (rows : List ℕ) (sum : ℕ) (s : RowsGi
           order-long : length order ≡ maxPoints
           order-long = ap length padded-order ∙ padded-long maxPoints 0 drawn-order (omega (arith, all))
 
-          crossed : crossings ≡ drawingOf (take n rows) edges .crossings
+          crossed : crossings ≡ drawingOf (take n rows) drawn .crossings
           crossed = d .crossings-are ∙ ap (λ (g : Drawing). g .crossings) drawing-is
 
-          says : done (record { rows = take n rows; order = take points order; figures = record { points = points; total = sum; crossings = crossings } }) ≡ unlessLarge (take n rows) edges
+          says : done (record { rows = take n rows; order = take points order; figures = record { points = points; total = sum; crossings = crossings } }) ≡ unlessLarge (take n rows) edges drawn
           says =
-              simp (le-leb (pointCount (take n rows) edges) maxPoints (omega (arith, count-is)))
+              simp (le-leb (pointCount (take n rows) drawn) maxPoints (omega (arith, count-is)))
               (charted-by (take n rows) _ _ _ _ _ _ _ _ front count-is (s .summed) crossed)
 
           whole : record { n = n; rows = rows; height = height; order = order; figures = record { points = points; total = sum; crossings = crossings } }
-              ≡ arraysOf (chartBy (unlessLarge (take n rows) edges))
+              ≡ arraysOf (chartBy (unlessLarge (take n rows) edges drawn))
           whole =
-              simp (le-leb (pointCount (take n rows) edges) maxPoints (omega (arith, count-is)))
+              simp (le-leb (pointCount (take n rows) drawn) maxPoints (omega (arith, count-is)))
               (arrays-same (sym (s .best .one-a-node)) (s .blank) e padded-order count-is (s .summed) crossed)

@@ -3,7 +3,7 @@ use mathlib.Core.Path.{_≡_, refl, ap, subst}
 use mathlib.Core.Bool.{Bool, true, false, _&&_, cond}
 use mathlib.Core.List.{List, [], _∷_}
 use Prim.Native.Nat.{ℕ, zero, suc, _+_, _*_, _-_, _≤_, _<_, suc-le-suc}
-use native.Mathlib.Nat.{le-trans, mul-le-mul-left, mul-le-mul-right, mul-comm, zero-lt-suc}
+use native.Mathlib.Nat.{mul-le-mul-left, mul-comm, zero-lt-suc}
 use native.Mathlib.Omega.{arith}
 use borrow.Author.Tests.{leb-true}
 use lib.Dec.{leb}
@@ -23,12 +23,12 @@ use Rattle.layering.proofs.CallLaws.{read-oriented}
 use Rattle.rows.specs.Placed.{topRow}
 use Rattle.rows.proofs.PlacedLaws.{best-low}
 use Rattle.ordering.specs.declared.Figures.{Figures}
-use Rattle.points.specs.Points.{between, pointRows, segments, rowCount}
+use Rattle.points.specs.Points.{pointRows, segments, rowCount}
 use Rattle.fewest.specs.Fewest.{bestOrder, drawingOf}
-use Rattle.ordering.specs.Calls.{ChartEnd, pointCount, unlessMany, chartOfTable, charted, chartOut, figuresNumbers, filled, chartEnd, chartCall, DrawnBest, ChartBest}
+use Rattle.ordering.specs.Calls.{ChartEnd, drawnIn, pointCount, unlessMany, chartOfTable, charted, chartOut, figuresNumbers, filled, chartEnd, chartCall, DrawnBest, ChartBest}
 use Rattle.ordering.specs.Charting.{Small}
-use Rattle.points.proofs.EdgeLaws.{betweenAll}
 use Rattle.points.proofs.PointLaws.{points-length, segments-length}
+use Rattle.ordering.proofs.DrawnLaws.{drawn-among}
 use Rattle.crossings.proofs.CrossingsLaws.{crossings-most}
 use Rattle.fewest.proofs.FewestLaws.{best-crossings}
 
@@ -66,32 +66,9 @@ total-low (e ∷ edges) y w t h =
       mul-comm w t,
     )
 
--- The lengths of the edges add up to the segments, so the total of a chart is no more than the largest weight for each of them.
-total-segments : (ys : List ℕ) (edges : List Edge) (w : ℕ) → ((i : ℕ) → i < length edges → getD edges i noEdge .weight ≤ w)
-    → total edges (at ys) ≤ w * (length edges + betweenAll ys edges)
-unfolding total betweenAll
-total-segments ys [] w h = omega arith
-total-segments ys (e ∷ edges) w h =
-    let one : span (at ys) e ≤ 1 + between ys e = omega arith in
-    omega (
-      arith,
-      total-segments ys edges w (λ i b. h (suc i) (suc-le-suc b)),
-      mul-le-mul-right (span (at ys) e) (h zero (zero-lt-suc (length edges))),
-      mul-le-mul-left w one,
-    )
-
-pub total-drawn : (ys : List ℕ) (edges : List Edge) → length edges ≤ maxEdges → length (pointRows ys edges) ≤ maxPoints
-    → ((i : ℕ) → i < length edges → getD edges i noEdge .weight ≤ maxWeight) → total edges (at ys) ≤ maxWeight * (maxPoints + maxEdges)
-total-drawn ys edges m p h =
-    let few : length edges + betweenAll ys edges ≤ maxPoints + maxEdges = omega (arith, points-length ys edges) in
-    le-trans (total-segments ys edges maxWeight h) (mul-le-mul-left maxWeight few)
-
--- the bounds in numbers: the largest total that rows can have, the largest of a chart, and the most crossings
+-- the bounds in numbers: the largest total that rows can have, and the most crossings
 pub largest-total : maxEdges * (maxWeight * topRow) ≡ 27907200
 largest-total = refl
-
-pub largest-drawn : maxWeight * (maxPoints + maxEdges) ≡ 334560
-largest-drawn = refl
 
 pub most-crossings : (f : Figures) → Small f → f .crossings ≤ 860672
 most-crossings f small = omega (arith, small .few-crossings)
@@ -117,8 +94,8 @@ module _ (bytes rows order : List ℕ) (f : Figures) (buffer : List ℕ) where
       let n = length (t .steps) in
       rw (getD-take n buffer v 0 h) (best-low n (orientedIn t) buffer (read-oriented bytes r) (b refl .0) v h)
 
-  small : (t : Contents) (ys : List ℕ) → read bytes ≡ done t → length (pointRows ys (orientedIn t)) ≤ maxPoints
-      → charted ys (orientedIn t) .figures ≡ f → Best-of t → Small f
+  small : (t : Contents) (ys : List ℕ) → read bytes ≡ done t → length (pointRows ys (drawnIn t)) ≤ maxPoints
+      → charted ys (orientedIn t) (drawnIn t) .figures ≡ f → Best-of t → Small f
   small t ys r p e b =
       let fair = read-oriented bytes r in
       let n = length (t .steps) in
@@ -126,7 +103,7 @@ module _ (bytes rows order : List ℕ) (f : Figures) (buffer : List ℕ) where
         few-points = subst (λ (x : Figures). x .points ≤ maxPoints) e p;
         few-crossings =
             subst (λ (x : Figures). 2 * x .crossings ≤ (maxPoints + maxEdges) * (maxPoints + maxEdges)) e
-            (crossings-low ys (orientedIn t) (fair .few-edges) p);
+            (crossings-low ys (drawnIn t) (omega (arith, fair .few-edges, drawn-among t .few)) p);
         low-total =
             omega (
               arith,
@@ -138,12 +115,12 @@ module _ (bytes rows order : List ℕ) (f : Figures) (buffer : List ℕ) where
             );
       }
 
-  end : (t : Contents) (ys : List ℕ) (b : Bool) → read bytes ≡ done t → length (pointRows ys (orientedIn t)) ≤ maxPoints
+  end : (t : Contents) (ys : List ℕ) (b : Bool) → read bytes ≡ done t → length (pointRows ys (drawnIn t)) ≤ maxPoints
       → cond {A = ChartEnd} b
-      (record { numbers = 0 ∷ figuresNumbers (charted ys (orientedIn t) .figures); rows = filled ys rows; order = filled (charted ys (orientedIn t) .order) order })
+      (record { numbers = 0 ∷ figuresNumbers (charted ys (orientedIn t) (drawnIn t) .figures); rows = filled ys rows; order = filled (charted ys (orientedIn t) (drawnIn t) .order) order })
       (record { numbers = numbersOf ShortBuffer; rows = rows; order = order }) .numbers ≡ 0 ∷ figuresNumbers f
       → Best-of t → Small f
-  end t ys true r p e b = small t ys r p (figures-same (charted ys (orientedIn t) .figures) f e) b
+  end t ys true r p e b = small t ys r p (figures-same (charted ys (orientedIn t) (drawnIn t) .figures) f e) b
   end t ys false r p e b = never ShortBuffer e
 
   -- a chart that is handed out has small figures
@@ -151,16 +128,16 @@ module _ (bytes rows order : List ℕ) (f : Figures) (buffer : List ℕ) where
   unfolding chartCall chartOfTable
   figures-small = go (read bytes) refl
     where
-      many : (t : Contents) (ys : List ℕ) (b : Bool) → read bytes ≡ done t → leb (pointCount ys (orientedIn t)) maxPoints ≡ b
+      many : (t : Contents) (ys : List ℕ) (b : Bool) → read bytes ≡ done t → leb (pointCount ys (drawnIn t)) maxPoints ≡ b
           → chartEnd (chartOut (demand b ManyPoints (done (record { contents = t; rows = ys })))) rows order .numbers ≡ 0 ∷ figuresNumbers f
           → Best-of t → Small f
       many t ys true r p e b =
-          end t ys (leb (length ys) (length rows) && leb (length (charted ys (orientedIn t) .order)) (length order)) r (leb-true _ _ p) e b
+          end t ys (leb (length ys) (length rows) && leb (length (charted ys (orientedIn t) (drawnIn t) .order)) (length order)) r (leb-true _ _ p) e b
       many t ys false r p e b = never ManyPoints e
 
       found : (t : Contents) (o : Outcome (List ℕ)) → read bytes ≡ done t
           → chartEnd (chartOut (thenDo o (λ ys. unlessMany t ys))) rows order .numbers ≡ 0 ∷ figuresNumbers f → Best-of t → Small f
-      found t (done ys) r e b = many t ys (leb (pointCount ys (orientedIn t)) maxPoints) r refl e b
+      found t (done ys) r e b = many t ys (leb (pointCount ys (drawnIn t)) maxPoints) r refl e b
       found t (refused g) r e b = never g e
 
       go : (o : Outcome Contents) → read bytes ≡ o

@@ -1,4 +1,5 @@
 pub mod SplitLaws
+pub mod DrawnLaws
 pub mod ChartLaws
 pub mod HandLaws
 pub mod CallLaws

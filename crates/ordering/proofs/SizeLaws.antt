@@ -15,9 +15,9 @@ use Rattle.outcome.specs.Refusal.{Outcome, done, refused, thenDo, demand}
 use Rattle.table.specs.Table.{Contents, read, readWithin}
 use Rattle.table.proofs.SizeLaws.{read-before}
 use Rattle.rows.specs.Placed.{oldTopRow}
-use Rattle.layering.specs.Calls.{tableRowsFound, rowsOfTable, orientedIn, stepsIn}
+use Rattle.layering.specs.Calls.{tableRowsFound, rowsOfTable, stepsIn}
 use Rattle.layering.proofs.SizeLaws.{table-byte}
-use Rattle.ordering.specs.Calls.{Placing, pointCount, unlessMany, chartOfTable}
+use Rattle.ordering.specs.Calls.{Placing, drawnIn, pointCount, unlessMany, chartOfTable}
 
 -- a chart's rows are those of the rows call
 pub chart-rows : (bytes : List ℕ) {p : Placing} → chartOfTable bytes ≡ done p → rowsOfTable bytes ≡ done (p .rows)
@@ -29,7 +29,7 @@ chart-rows bytes {p} e = go (read bytes) e
     many t rows false e = let z : _≡_ {A = ℕ} 0 1 = cc in absurd (omega arith)
 
     found : (t : Contents) (o : Outcome (List ℕ)) → thenDo o (λ rows. unlessMany t rows) ≡ done p → o ≡ done (p .rows)
-    found t (done rows) e = many t rows (leb (pointCount rows (orientedIn t)) maxPoints) e
+    found t (done rows) e = many t rows (leb (pointCount rows (drawnIn t)) maxPoints) e
     found t (refused r) e = let z : _≡_ {A = ℕ} 0 1 = cc in absurd (omega arith)
 
     go : (o : Outcome Contents) → thenDo o (λ t. thenDo (tableRowsFound (length (t .steps)) (t .edges)) (λ rows. unlessMany t rows)) ≡ done p

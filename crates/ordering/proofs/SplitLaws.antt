@@ -39,9 +39,10 @@ module _ (edges : List Edge) where
     pub splitting-with : i < maxEdges → (e : Edge) → e ≡ getD edges i noEdge → Splitting edges (i + 1) (set from i (e .from)) (set to i (e .to))
     splitting-with h e same = subst (λ (e : Edge). Splitting edges (i + 1) (set from i (e .from)) (set to i (e .to))) (sym same) (splitting-more h)
 
-    pub splitting-all : (m : ℕ) → m ≤ i → m ≤ maxEdges → length edges ≡ maxEdges → Split m edges from to
+    pub splitting-all : (m : ℕ) → m ≤ i → m ≤ maxEdges → length edges ≡ maxEdges → Split (take m edges) m from to
     splitting-all m l few long =
         record {
+          few = few;
           tails = copied-map noEdge (λ (e : Edge). e .from) refl maxEdges edges m i from (s .tails) l few (omega arith);
           heads = copied-map noEdge (λ (e : Edge). e .to) refl maxEdges edges m i to (s .heads) l few (omega arith);
           from-long = s .tails .long;
@@ -49,9 +50,9 @@ module _ (edges : List Edge) where
         }
 
 -- the parts that are lent
-module _ {m : ℕ} {edges : List Edge} {from to : List ℕ} (s : Split m edges from to) (few : m ≤ maxEdges) where
-  pub part-from : m ≡ length (take m from)
-  part-from = sym (length-take-le m from (omega (arith, s .from-long)))
+module _ {edges : List Edge} {count : ℕ} {from to : List ℕ} (s : Split edges count from to) where
+  pub part-from : count ≡ length (take count from)
+  part-from = sym (length-take-le count from (omega (arith, s .from-long, s .few)))
 
-  pub part-to : m ≡ length (take m to)
-  part-to = sym (length-take-le m to (omega (arith, s .to-long)))
+  pub part-to : count ≡ length (take count to)
+  part-to = sym (length-take-le count to (omega (arith, s .to-long, s .few)))

@@ -17,14 +17,14 @@ use Rattle.outcome.proofs.ToldLaws.{numbers-same, number-some}
 use Rattle.rows.proofs.StepLaws.{StepLow, never, same, demand-step}
 use Rattle.layering.specs.Calls.{tableRowsFound, orientedIn}
 use Rattle.layering.proofs.StepLaws.{ranked-step}
-use Rattle.ordering.specs.Calls.{Placing, Charted, ChartEnd, pointCount, unlessMany, chartOfTable, charted, chartOut, figuresNumbers, filled, chartEnd, chartCall}
+use Rattle.ordering.specs.Calls.{Placing, Charted, ChartEnd, drawnIn, pointCount, unlessMany, chartOfTable, charted, chartOut, figuresNumbers, filled, chartEnd, chartCall}
 
 pub chart-of-step : (bytes : List ℕ) {f : Refusal} → chartOfTable bytes ≡ refused f → StepLow f
 unfolding chartOfTable
 chart-of-step bytes {f} e = go (read bytes) refl e
   where
     found : (t : Contents) (o : Outcome (List ℕ)) → ((g : Refusal) → o ≡ refused g → StepLow g) → thenDo o (λ rows. unlessMany t rows) ≡ refused f → StepLow f
-    found t (done rows) h e = demand-step (leb (pointCount rows (orientedIn t)) maxPoints) ManyPoints _ (omega arith) (λ _ k. never k) e
+    found t (done rows) h e = demand-step (leb (pointCount rows (drawnIn t)) maxPoints) ManyPoints _ (omega arith) (λ _ k. never k) e
     found t (refused g) h e = subst StepLow (same e) (h g refl)
 
     go : (o : Outcome Contents) → read bytes ≡ o
@@ -45,6 +45,6 @@ chart-call-step bytes rows order f e = go (chartOfTable bytes) refl e
 
     go : (o : Outcome Placing) → chartOfTable bytes ≡ o → numbersOf f ≡ chartEnd (chartOut o) rows order .numbers → StepLow f
     go (done p) r e =
-        let c = charted (p .rows) (orientedIn (p .contents)) in
+        let c = charted (p .rows) (orientedIn (p .contents)) (drawnIn (p .contents)) in
         end c (leb (length (c .rows)) (length rows) && leb (length (c .order)) (length order)) e
     go (refused g) r e = subst StepLow (numbers-same g f (sym e)) (chart-of-step bytes r)

@@ -14,7 +14,8 @@ use Rattle.points.specs.Limits.{maxPoints}
 use Rattle.outcome.specs.Refusal.{Outcome, done, refused, thenDo, demand, numbersOf, told, bare, verdictNumbers, refusalIn}
 use Rattle.table.specs.Table.{Contents, read}
 use Rattle.buffers.specs.Padded.{padded}
-use Rattle.layering.specs.Calls.{tableRowsFound, orientedIn, stepsIn, edgesIn, placeCall}
+use Rattle.layering.specs.Calls.{tableRowsFound, orientedIn, turnedIn, stepsIn, edgesIn, placeCall}
+use Rattle.merging.specs.Merged.{merged, drawnEdges}
 use Rattle.ordering.specs.declared.Figures.{Figures}
 use Rattle.ordering.specs.declared.ChartAnswer.{ChartAnswer}
 use Rattle.ordering.specs.declared.ChartAnswer.the-variants.{Drawn, Refused}
@@ -24,6 +25,11 @@ use Rattle.points.specs.Points.{pointRows, rowCount}
 use Rattle.fewest.specs.Fewest.{drawingOf}
 
 -- ---- the chart of a table
+
+-- A table's edges as they are drawn: repeated ones are one, kept or turned as they are (document 02, request 6). Points, order and
+-- crossings are of these; rows and total are of the edges themselves.
+abbrev pub drawnIn : Contents → List Edge
+drawnIn t = drawnEdges (turnedIn t) (merged (t .edges))
 
 -- a table that was read, with its rows
 pub record Placing : Type 0 where
@@ -36,9 +42,9 @@ pointCount rows edges = length (pointRows rows edges)
 
 -- too many points are refused (12)
 abbrev pub unlessMany : Contents → List ℕ → Outcome Placing
-unlessMany t rows = demand (leb (pointCount rows (orientedIn t)) maxPoints) ManyPoints (done (record { contents = t; rows = rows }))
+unlessMany t rows = demand (leb (pointCount rows (drawnIn t)) maxPoints) ManyPoints (done (record { contents = t; rows = rows }))
 
--- the refusals of the table, then of its rows (11), then 12; the points are those of the edges as they are kept or turned
+-- the refusals of the table, then of its rows (11), then 12
 unfoldable pub chartOfTable : List ℕ → Outcome Placing
 chartOfTable bytes = thenDo (read bytes) λ t. thenDo (tableRowsFound (length (t .steps)) (t .edges)) λ rows. unlessMany t rows
 
@@ -50,23 +56,23 @@ pub record Charted : Type 0 where
   pub order : List ℕ
   pub figures : Figures
 
--- The order goes row by row from row 0, each from left to right. The numbers are those of the points, the total of the rows, and the
--- crossings of the order.
-abbrev pub charted : List ℕ → List Edge → Charted
-charted rows edges =
+-- The rows of some edges, and the drawing of those that stand for them. The order goes row by row from row 0, each from left to right. The
+-- numbers are those of the points, the total of the rows, and the crossings of the order.
+abbrev pub charted : List ℕ → List Edge → List Edge → Charted
+charted rows edges drawn =
     record {
       rows = rows;
-      order = flatten (drawingOf rows edges .order);
+      order = flatten (drawingOf rows drawn .order);
       figures =
           record {
-            points = pointCount rows edges;
+            points = pointCount rows drawn;
             total = total edges (at rows);
-            crossings = drawingOf rows edges .crossings;
+            crossings = drawingOf rows drawn .crossings;
           };
     }
 
 abbrev pub chartOut : Outcome Placing → Outcome Charted
-chartOut o = thenDo o λ p. done (charted (p .rows) (orientedIn (p .contents)))
+chartOut o = thenDo o λ p. done (charted (p .rows) (orientedIn (p .contents)) (drawnIn (p .contents)))
 
 -- ---- the buffers
 

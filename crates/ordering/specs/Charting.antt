@@ -1,9 +1,10 @@
 -- What the functions behind the whole chart ask for and answer.
 use mathlib.Core.Path.{_≡_}
+use mathlib.Core.Bool.{Bool}
 use mathlib.Core.List.{List, [], map}
 use Prim.Native.Nat.{ℕ, _+_, _*_, _≤_, _<_}
 use lib.Dec.{leb}
-use lib.ListN.{length, take}
+use lib.ListN.{length, getD, take}
 use Rattle.graph.specs.declared.Edge.{Edge}
 use Rattle.graph.specs.Rows.{at, total, Best}
 use Rattle.outcome.specs.declared.Refusal.{Refusal}
@@ -14,6 +15,8 @@ use Rattle.points.specs.Limits.{maxPoints}
 use Rattle.outcome.specs.Refusal.{Outcome, done, demand}
 use Rattle.layering.specs.Calls.{stepsIn, edgesIn}
 use Rattle.buffers.specs.Padded.{padded}
+use Rattle.merging.specs.declared.MergedEdge.{MergedEdge}
+use Rattle.merging.specs.Merged.{noMergedEdge}
 use Rattle.rows.specs.Placed.{outcomeBy, topRow, FairEdges}
 use Rattle.ordering.specs.declared.Figures.{Figures}
 use Rattle.ordering.specs.declared.ChartAnswer.{ChartAnswer}
@@ -23,12 +26,20 @@ use Rattle.buffers.specs.Lists.{Below}
 use Rattle.points.specs.Laying.{Chart}
 use Rattle.ordering.specs.Calls.{pointCount, Charted, charted, chartOut, chartOfTable, chartEnd, chartNumbers, chartBy, arraysOf, arraysIn}
 
--- the first m entries of two arrays are the ends of the first m edges
-pub record Split (m : ℕ) (edges : List Edge) (from to : List ℕ) : Type 0 where
-  pub tails : take m from ≡ map (λ (e : Edge). e .from) (take m edges)
-  pub heads : take m to ≡ map (λ (e : Edge). e .to) (take m edges)
+-- the first entries of two arrays, so many, are the ends of edges
+pub record Split (edges : List Edge) (count : ℕ) (from to : List ℕ) : Type 0 where
+  pub few : count ≤ maxEdges
+  pub tails : take count from ≡ map (λ (e : Edge). e .from) edges
+  pub heads : take count to ≡ map (λ (e : Edge). e .to) edges
   pub from-long : length from ≡ maxEdges
   pub to-long : length to ≡ maxEdges
+
+-- the first merged edges of an array, so many, and a flag for the first edge of each
+pub record Directable (count : ℕ) (list : List MergedEdge) (turned : List Bool) : Type 0 where
+  pub few : count ≤ maxEdges
+  pub long : length list ≡ maxEdges
+  pub flags-long : length turned ≡ maxEdges
+  pub firsts : (i : ℕ) → i < count → getD list i noMergedEdge .first < maxEdges
 
 -- a chart that is to be drawn, if it has few points
 pub record Sizable (ys from to : List ℕ) : Type 0 where
@@ -91,12 +102,12 @@ pub record ChartHeld (n : ℕ) (edges : List Edge) (what : Outcome Charted) (f :
   pub summed : f .verdict ≡ Accepted → f .total ≡ total edges (at (take (f .n) (f .rows)))
   pub tall : f .verdict ≡ Accepted → f .height ≡ rowCount (take (f .n) (f .rows))
 
--- the chart of edges in their rows: refused where it has too many points
-abbrev pub unlessLarge : List ℕ → List Edge → Outcome Charted
-unlessLarge rows edges = demand (leb (pointCount rows edges) maxPoints) ManyPoints (done (charted rows edges))
+-- the chart of edges in their rows, drawn by those that stand for them: refused where it has too many points
+abbrev pub unlessLarge : List ℕ → List Edge → List Edge → Outcome Charted
+unlessLarge rows edges drawn = demand (leb (pointCount rows drawn) maxPoints) ManyPoints (done (charted rows edges drawn))
 
-abbrev pub EdgesFound : ℕ → List Edge → List ℕ → ChartFound → Type 0
-EdgesFound n edges rows f = ChartHeld n edges (unlessLarge rows edges) f
+abbrev pub EdgesFound : ℕ → List Edge → List Edge → List ℕ → ChartFound → Type 0
+EdgesFound n edges drawn rows f = ChartHeld n edges (unlessLarge rows edges drawn) f
 
 -- the chart of a table
 abbrev pub TableFound : List ℕ → ChartFound → Type 0

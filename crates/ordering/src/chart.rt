@@ -2,7 +2,9 @@
 use crate::types::ChartFound;
 use drawing::draw_points;
 use graph::TableEdge;
-use graph::direct_edge;
+use merging::MergedEdge;
+use merging::direct_merged;
+use merging::merge_edges;
 use outcome::Refusal;
 use outcome::Verdict;
 use points::count_points;
@@ -15,10 +17,13 @@ ghost use Prim.Native.Nat.{_≤_};
 ghost use lib.ListN.{length, take};
 ghost use Rattle.graph.specs.Directed.{directedBy};
 ghost use Rattle.table.specs.Limits.{maxEdges};
-ghost use Rattle.ordering.specs.Charting.{Split, RowsGiven, noChart, EdgesFound};
+ghost use Rattle.merging.specs.Merged.{merged, drawnEdges};
+ghost use Rattle.merging.specs.Merging.{Mergeable};
+ghost use Rattle.ordering.specs.Charting.{Split, Directable, RowsGiven, noChart, EdgesFound};
 
-// The ends of edges, one array an end.
+// The ends of edges, one array an end: the first `count` entries are in use.
 pub struct EdgeEnds {
+    pub count: usize,
     pub from: [usize; MAX_EDGES],
     pub to: [usize; MAX_EDGES],
 }
@@ -39,8 +44,8 @@ pub fn refuse_chart(f: Refusal) -> ChartFound
     }
 }
 
-// The chart of the first m edges of an array, each as its flag says, between n steps in their best rows. The points are counted first, since
-// only so many can be drawn.
+// The chart of the first m edges of an array, each as its flag says, between n steps in their best rows: repeated edges are drawn as one.
+// The points are counted first, since only so many can be drawn.
 pub fn draw_edges(
     edges: [TableEdge; MAX_EDGES],
     turned: [bool; MAX_EDGES],
@@ -49,21 +54,22 @@ pub fn draw_edges(
     rows: [usize; MAX_STEPS],
     total: usize,
 ) -> ChartFound
-    requires { ⌜ RowsGiven n (take m (directedBy turned edges)) rows total ⌝ }
+    requires { ⌜ RowsGiven n (directedBy turned (take m edges)) rows total ⌝ }
     requires { ⌜ (m ≤ maxEdges) × (length edges ≡ maxEdges) ⌝ }
     requires { ⌜ length turned ≡ maxEdges ⌝ }
-    ensures { λ r. ⌜ EdgesFound n (take m (directedBy turned edges)) (take n rows) r ⌝ }
+    ensures { λ r. ⌜ EdgesFound n (directedBy turned (take m edges)) (drawnEdges turned (merged (take m edges))) (take n rows) r ⌝ }
 {
-    let ends = split_ends(edges, turned, m);
+    let ends = merge_ends(edges, turned, m);
+    let count = ends.count;
     let from = ends.from;
     let to = ends.to;
-    let points = count_points(&rows[..n], &from[..m], &to[..m]);
+    let points = count_points(&rows[..n], &from[..count], &to[..count]);
     if MAX_POINTS < points {
         return refuse_chart(Refusal::ManyPoints);
     }
     let height = count_rows(&rows[..n]);
     let mut order = [0u16; MAX_POINTS];
-    let crossings = draw_points(&rows[..n], &from[..m], &to[..m], points, &mut order);
+    let crossings = draw_points(&rows[..n], &from[..count], &to[..count], points, &mut order);
     ChartFound {
         verdict: Verdict::Accepted,
         n: n,
@@ -76,19 +82,34 @@ pub fn draw_edges(
     }
 }
 
-// The ends of the first m edges, each as its flag says.
-fn split_ends(edges: [TableEdge; MAX_EDGES], turned: [bool; MAX_EDGES], m: usize) -> EdgeEnds
-    requires { ⌜ (m ≤ maxEdges) × (length edges ≡ maxEdges) ⌝ }
+// The ends of the first m edges of an array as they are drawn.
+fn merge_ends(edges: [TableEdge; MAX_EDGES], turned: [bool; MAX_EDGES], m: usize) -> EdgeEnds
+    requires { ⌜ Mergeable m edges ⌝ }
     requires { ⌜ length turned ≡ maxEdges ⌝ }
-    ensures { λ r. ⌜ Split m (directedBy turned edges) (r .from) (r .to) ⌝ }
+    ensures { λ r. ⌜ Split (drawnEdges turned (merged (take m edges))) (r .count) (r .from) (r .to) ⌝ }
+{
+    let all = merge_edges(edges, m);
+    let list = all.list;
+    split_ends(list, turned, all.count)
+}
+
+// The ends of the first merged edges, so many, each kept or turned as its first edge is.
+fn split_ends(list: [MergedEdge; MAX_EDGES], turned: [bool; MAX_EDGES], count: usize) -> EdgeEnds
+    requires { ⌜ Directable count list turned ⌝ }
+    ensures { λ r. ⌜ Split (take count (drawnEdges turned list)) (r .count) (r .from) (r .to) ⌝ }
 {
     let mut from = [0usize; MAX_EDGES];
     let mut to = [0usize; MAX_EDGES];
-    for i in 0..m {
-        let e = edges[i];
-        let directed = direct_edge(e, turned[i]);
+    for i in 0..count {
+        let e = list[i];
+        let first = e.first as usize;
+        let directed = direct_merged(e, turned[first]);
         from[i] = directed.from;
         to[i] = directed.to;
     }
-    EdgeEnds { from: from, to: to }
+    EdgeEnds {
+        count: count,
+        from: from,
+        to: to,
+    }
 }

@@ -5,13 +5,16 @@ use Prim.Native.Nat.{_≤_}
 use native.Mathlib.Omega.{arith}
 use denote.Ref.{now}
 use lib.ListN.{length, take, replicate, length-map}
-use Rattle.graph.specs.Directed.{directedBy}
+use Rattle.merging.specs.declared.MergedEdges.{MergedEdges}
+use Rattle.merging.specs.Merging.{mergedArray}
 use Rattle.points.specs.Limits.{maxPoints}
 use Rattle.points.specs.Points.{Dummy, dummies}
 use Rattle.ordering.specs.Charting.{Storable}
-use Rattle.lines.specs.Printing.{ownersOf, dummyRows, Layable}
+use Rattle.lines.specs.Printing.{numbered, ownersOf, dummyRows, Layable}
+use Rattle.lines.proofs.LayLaws.{owners-count}
+use Rattle.listing.specs.Listing.{laidDummies}
 use Rattle.listing.proofs.ChartedLaws.{Opened, opened}
-use Rattle.listing.proofs.PageLaws.{page-layable, page-sheet, page-head, page-rows, page-stored, stored-front, front-long}
+use Rattle.listing.proofs.PageLaws.{page-mergeable, page-layable, page-sheet, page-head, page-rows, page-stored, stored-front, front-long}
 use borrow.Author.Needs.{needs}
 use Rattle.listing.proofs.page.print_chart.Statement.{statement}
 use Rattle.listing.proofs.page.print_chart.Tie as tie
@@ -27,22 +30,25 @@ storable-of c = c .pre .1 .1 .0 .handable .storable (c .pre .1 .1 .1 .0)
 rows-long : (c : tie.Start) → c .args .table .n ≤ length (c .args .found .rows)
 rows-long c = omega (arith, open-of c .f-n, storable-of c .few-rows)
 
--- the dummies, and that there is room for them
-abbrev dummies-of : tie.Start → List Dummy
-dummies-of c = dummies (take (c .args .table .n) (c .args .found .rows)) 0 (directedBy (c .args .turned) (take (c .args .table .m) (c .args .table .edges)))
+-- the edges as they are drawn, their dummies, and that there is room for them
+abbrev all-of : tie.Start → MergedEdges
+all-of c = mergedArray (take (c .args .table .m) (c .args .table .edges))
 
-layable : (c : tie.Start) → Layable (c .args .table .edges) (c .args .turned) (c .args .table .m) (take (c .args .table .n) (c .args .found .rows)) (replicate maxPoints 0) (replicate maxPoints 0)
+abbrev dummies-of : tie.Start → List Dummy
+dummies-of c = laidDummies (all-of c) (c .args .turned) (take (c .args .table .n) (c .args .found .rows))
+
+layable : (c : tie.Start) → Layable (all-of c .list) (c .args .turned) (all-of c .count) (take (c .args .table .n) (c .args .found .rows)) (replicate maxPoints 0) (replicate maxPoints 0)
 layable c = page-layable (now (c .args .bytes)) (c .args .table) (c .args .turned) (c .args .found) (open-of c) (replicate maxPoints 0) (replicate maxPoints 0) (omega arith) (omega arith)
 
-abbrev start : tie.After-lay-dummies → tie.Start
+abbrev start : tie.After-lay-merged → tie.Start
 start c = c .before .before .before .before .before .before .before .before .before .before
 
 -- laid, they are the first entries of their arrays
-owners-laid : (c : tie.After-lay-dummies) → (c .lay-dummies .result ≤ length (c .lay-dummies .last .1 .1 .1 .1 .0)) × (take (c .lay-dummies .result) (c .lay-dummies .last .1 .1 .1 .1 .0) ≡ ownersOf (dummies-of (start c)))
-owners-laid c = stored-front (replicate maxPoints 0) (ownersOf (dummies-of (start c))) _ _ (omega (arith, layable (start c) .owners-room, length-map (dummies-of (start c)) (λ (d : Dummy). d .edge))) (c .lay-dummies .ensures .0)
+owners-laid : (c : tie.After-lay-merged) → (c .lay-merged .result ≤ length (c .lay-merged .last .1 .1 .1 .1 .0)) × (take (c .lay-merged .result) (c .lay-merged .last .1 .1 .1 .1 .0) ≡ ownersOf (numbered (all-of (start c) .list) (dummies-of (start c))))
+owners-laid c = stored-front (replicate maxPoints 0) (ownersOf (numbered (all-of (start c) .list) (dummies-of (start c)))) _ _ (omega (arith, layable (start c) .owners-room, owners-count (all-of (start c) .list) (dummies-of (start c)))) (c .lay-merged .ensures .0)
 
-rows-laid : (c : tie.After-lay-dummies) → (c .lay-dummies .result ≤ length (c .lay-dummies .last .1 .1 .1 .1 .1 .0)) × (take (c .lay-dummies .result) (c .lay-dummies .last .1 .1 .1 .1 .1 .0) ≡ dummyRows (dummies-of (start c)))
-rows-laid c = stored-front (replicate maxPoints 0) (dummyRows (dummies-of (start c))) _ _ (omega (arith, layable (start c) .rows-room, length-map (dummies-of (start c)) (λ (d : Dummy). d .row))) (c .lay-dummies .ensures .1)
+rows-laid : (c : tie.After-lay-merged) → (c .lay-merged .result ≤ length (c .lay-merged .last .1 .1 .1 .1 .1 .0)) × (take (c .lay-merged .result) (c .lay-merged .last .1 .1 .1 .1 .1 .0) ≡ dummyRows (dummies-of (start c)))
+rows-laid c = stored-front (replicate maxPoints 0) (dummyRows (dummies-of (start c))) _ _ (omega (arith, layable (start c) .rows-room, length-map (dummies-of (start c)) (λ (d : Dummy). d .row))) (c .lay-merged .ensures .1)
 
 array-share-prefix-found-rows : tie.Need-array-share-prefix-found-rows
 array-share-prefix-found-rows c = rows-long (c .before .before .before .before .before .before)
@@ -50,14 +56,16 @@ array-share-prefix-found-rows c = rows-long (c .before .before .before .before .
 slice-aggregate-ys : tie.Need-slice-aggregate-ys
 slice-aggregate-ys c = front-long _ _ (rows-long (c .before .before .before .before .before .before .before))
 
-slice-aggregate-lay-dummies : tie.Need-slice-aggregate-lay-dummies
-slice-aggregate-lay-dummies c = search needs
+slice-aggregate-lay-merged : tie.Need-slice-aggregate-lay-merged
+slice-aggregate-lay-merged c = search needs
 
-slice-aggregate-lay-dummies-2 : tie.Need-slice-aggregate-lay-dummies-2
-slice-aggregate-lay-dummies-2 c = search needs
+slice-aggregate-lay-merged-2 : tie.Need-slice-aggregate-lay-merged-2
+slice-aggregate-lay-merged-2 c = search needs
 
-lay-dummies-requires : tie.Need-lay-dummies-requires
-lay-dummies-requires c κs = layable (c .before .before .before .before .before .before .before .before .before)
+lay-merged-requires : tie.Need-lay-merged-requires
+lay-merged-requires c κs =
+    let s = c .before .before .before .before .before .before .before .before .before in
+    (page-mergeable (now (s .args .bytes)) (s .args .table) (s .args .turned) (s .args .found) (open-of s), layable s)
 
 slice-aggregate-put-line : tie.Need-slice-aggregate-put-line
 slice-aggregate-put-line c = search needs
@@ -101,9 +109,9 @@ print-chart-spec =
     (tie.spec
     array-share-prefix-found-rows
     slice-aggregate-ys
-    slice-aggregate-lay-dummies
-    slice-aggregate-lay-dummies-2
-    lay-dummies-requires
+    slice-aggregate-lay-merged
+    slice-aggregate-lay-merged-2
+    lay-merged-requires
     slice-aggregate-put-line
     slice-aggregate-put-line-2
     put-line-requires
