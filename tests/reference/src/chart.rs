@@ -1,5 +1,6 @@
 //! The whole chart of a table, before any buffer is looked at.
 
+use crate::merged::edges_of;
 use crate::order::{find_order, Order};
 use crate::points::{count_points, place_points, Layout, MAX_POINTS};
 use crate::refusal::Refusal;
@@ -34,12 +35,13 @@ pub fn draw_chart(table: &Table) -> Result<Chart, Refusal> {
     draw_placed(place_table(table)?)
 }
 
-pub fn draw_placed(Placed { settled, rows }: Placed) -> Result<Chart, Refusal> {
-    if count_points(&settled.edges, &rows) > MAX_POINTS {
+/// Points, order and crossings go by the merged edges, and so does the total, which is that of the table's edges too.
+pub fn draw_placed(Placed { settled, merged, rows }: Placed) -> Result<Chart, Refusal> {
+    if count_points(&merged, &rows) > MAX_POINTS {
         return Err(Refusal::TooManyPoints);
     }
-    let total = total(&settled.edges, &rows);
-    let layout = place_points(&settled.edges, &rows);
+    let total = total(&edges_of(&merged), &rows);
+    let layout = place_points(&merged, &rows);
     let (order, crossings, best_pass) = find_order(&layout);
     Ok(Chart { rows, turned: settled.turned, total, layout, order, crossings, best_pass })
 }

@@ -8,6 +8,7 @@ pub mod convert;
 pub mod flow;
 pub mod listing;
 pub mod loops;
+pub mod merged;
 pub mod order;
 pub mod points;
 pub mod program;

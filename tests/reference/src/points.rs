@@ -1,7 +1,7 @@
 //! Points (steps, then pass points) and the pieces between neighbouring rows.
 
+use crate::merged::MergedEdge;
 use crate::rows::row_count;
-use crate::table::Edge;
 
 pub const MAX_POINTS: usize = 1024;
 
@@ -9,7 +9,7 @@ pub struct Layout {
     pub row_count: usize,
     /// The row of each point.
     pub row_of: Vec<usize>,
-    /// The edge of each pass point; none for a step.
+    /// The number of each pass point's merged edge; none for a step.
     pub edge_of: Vec<Option<usize>>,
     /// Upper and lower point of each piece, the lower one row further down.
     pub pieces: Vec<(usize, usize)>,
@@ -18,21 +18,21 @@ pub struct Layout {
     pub below: Vec<Vec<usize>>,
 }
 
-pub fn count_points(edges: &[Edge], rows: &[usize]) -> usize {
-    let pass_points: usize = edges.iter().map(|edge| rows[edge.to] - rows[edge.from] - 1).sum();
+pub fn count_points(merged: &[MergedEdge], rows: &[usize]) -> usize {
+    let pass_points: usize = merged.iter().map(|each| rows[each.edge.to] - rows[each.edge.from] - 1).sum();
     rows.len() + pass_points
 }
 
-pub fn place_points(edges: &[Edge], rows: &[usize]) -> Layout {
+pub fn place_points(merged: &[MergedEdge], rows: &[usize]) -> Layout {
     let mut row_of = rows.to_vec();
     let mut edge_of = vec![None; rows.len()];
     let mut pieces = Vec::new();
-    for (index, edge) in edges.iter().enumerate() {
+    for &MergedEdge { edge, number } in merged {
         let mut upper = edge.from;
         for row in rows[edge.from] + 1..rows[edge.to] {
             let point = row_of.len();
             row_of.push(row);
-            edge_of.push(Some(index));
+            edge_of.push(Some(number));
             pieces.push((upper, point));
             upper = point;
         }

@@ -1,11 +1,12 @@
 //! Soft edges kept or turned, by a search for each.
 
 use crate::loops::lowest_on_loop;
+use crate::merged::{edges_of, merge, MergedEdge};
 use crate::refusal::Refusal;
 use crate::rows::find_rows;
 use crate::table::{Edge, Table, TableEdge};
 
-/// The edges that rows and points are of: one for each edge of the table, at its number.
+/// The edges as kept or turned: one for each edge of the table, at its number.
 #[derive(Clone, PartialEq, Eq, Debug)]
 pub struct Settled {
     pub edges: Vec<Edge>,
@@ -32,17 +33,20 @@ pub fn settle(steps: usize, edges: &[TableEdge]) -> Result<Settled, Refusal> {
     Ok(settled)
 }
 
-/// A table's edges as kept or turned, and the row of each step.
+/// A table's edges as kept or turned, the merged edges that are drawn for them, and the row of each step.
 pub struct Placed {
     pub settled: Settled,
+    pub merged: Vec<MergedEdge>,
     pub rows: Vec<usize>,
 }
 
+/// Rows are found for the merged edges. A library that finds them for the table's edges has to come to the same ones.
 pub fn place_table(table: &Table) -> Result<Placed, Refusal> {
     let steps = table.steps.len();
     let settled = settle(steps, &table.edges)?;
-    let rows = find_rows(steps, &settled.edges);
-    Ok(Placed { settled, rows })
+    let merged = merge(&table.edges, &settled);
+    let rows = find_rows(steps, &edges_of(&merged));
+    Ok(Placed { settled, merged, rows })
 }
 
 pub fn rows_of_table(table: &Table) -> Result<Vec<usize>, Refusal> {

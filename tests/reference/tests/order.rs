@@ -1,12 +1,18 @@
 //! Orders worked by hand: places that points without pieces keep, exact means, ties, repeated pieces.
 
+use reference::merged::MergedEdge;
 use reference::order::{count_crossings, find_order, run_pass, start_order};
 use reference::points::{count_points, place_points, Layout};
 use reference::table::Edge;
 
+/// Merged edges with these ends, each of one edge; two with the same ends are of unlike firmness.
+fn merged(ends: &[(usize, usize)]) -> Vec<MergedEdge> {
+    let edge = |&(from, to)| Edge { from, to, gap: 1, weight: 1 };
+    ends.iter().map(edge).enumerate().map(|(number, edge)| MergedEdge { edge, number }).collect()
+}
+
 fn layout(rows: &[usize], ends: &[(usize, usize)]) -> Layout {
-    let edges: Vec<Edge> = ends.iter().map(|&(from, to)| Edge { from, to, gap: 1, weight: 1 }).collect();
-    place_points(&edges, rows)
+    place_points(&merged(ends), rows)
 }
 
 #[test]
@@ -53,6 +59,5 @@ fn pass_points_follow_edges_then_rows() {
     assert_eq!(layout.row_of, [0, 3, 1, 1, 2, 2]);
     assert_eq!(layout.edge_of, [None, None, None, Some(0), Some(0), Some(1)]);
     assert_eq!(layout.pieces, [(0, 3), (3, 4), (4, 1), (2, 5), (5, 1)]);
-    let edges = [Edge { from: 0, to: 1, gap: 1, weight: 1 }, Edge { from: 2, to: 1, gap: 1, weight: 1 }];
-    assert_eq!(count_points(&edges, &[0, 3, 1]), 6);
+    assert_eq!(count_points(&merged(&[(0, 1), (2, 1)]), &[0, 3, 1]), 6);
 }

@@ -12,6 +12,7 @@ use reference::table::{LIMITS, OLD_LIMITS};
 use crate::fault::on;
 use crate::wrong_chart::draw;
 use crate::wrong_entries;
+use crate::wrong_merged::merge;
 use crate::wrong_rows;
 use crate::wrong_soft;
 use crate::wrong_table::read;
@@ -42,7 +43,7 @@ pub fn rows(table: &[u8], buffer: &mut [u16]) -> u64 {
         }
         let settled = wrong_soft::settle(table.steps.len(), &table.edges);
         let rows = wrong_soft::rows(table.steps.len(), &settled)?;
-        if on("rows-judge-12") && count_points(&settled.edges, &rows) > MAX_POINTS {
+        if on("rows-judge-12") && count_points(&merge(&table.edges, &settled), &rows) > MAX_POINTS {
             return Err(Refusal::TooManyPoints);
         }
         Ok(rows)

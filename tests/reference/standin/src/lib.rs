@@ -6,6 +6,7 @@ pub mod fault;
 pub mod wrong_chart;
 mod wrong_entries;
 mod wrong_forms;
+mod wrong_merged;
 mod wrong_order;
 mod wrong_rows;
 mod wrong_soft;

@@ -8,6 +8,7 @@ use reference::soft::Settled;
 use reference::table::{read_table, Edge, Table};
 
 use crate::fault::on;
+use crate::wrong_merged::merge;
 use crate::wrong_order::find_order;
 use crate::wrong_soft;
 
@@ -24,8 +25,9 @@ pub fn draw(table: &Table) -> Result<Chart, Refusal> {
     }
     let settled = wrong_soft::settle(table.steps.len(), &table.edges);
     let handed_out = wrong_soft::rows(table.steps.len(), &settled)?;
+    let rows = rows_of_edges(table.steps.len(), &settled.edges)?;
+    let merged = merge(&table.edges, &settled);
     let Settled { edges, turned } = settled;
-    let rows = rows_of_edges(table.steps.len(), &edges)?;
     let most = if on("points-1025") {
         MAX_POINTS + 1
     } else if on("points-1023") {
@@ -33,10 +35,10 @@ pub fn draw(table: &Table) -> Result<Chart, Refusal> {
     } else {
         MAX_POINTS
     };
-    if count_points(&edges, &rows) > most {
+    if count_points(&merged, &rows) > most {
         return Err(Refusal::TooManyPoints);
     }
-    let layout = renumber(place_points(&edges, &rows), &turned);
+    let layout = renumber(place_points(&merged, &rows), &turned);
     let (order, crossings) = find_order(&layout);
     let total = total(&edges, &turned, &handed_out);
     Ok(Chart { total, rows: handed_out, turned, layout, order, crossings, best_pass: 0 })

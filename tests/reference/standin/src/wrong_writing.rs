@@ -3,9 +3,8 @@
 use reference::loops::lowest_on_loop;
 use reference::points::{count_points, MAX_POINTS};
 use reference::refusal::Refusal;
-use reference::rows::find_rows;
 use reference::shortest::{draft_of, said, Said};
-use reference::soft::{must_edges, settle};
+use reference::soft::{must_edges, place_table, settle, Placed};
 use reference::table::{read_table, Kind, Table, TableEdge, LIMITS};
 
 use crate::fault::on;
@@ -47,8 +46,8 @@ fn judge_too_much(table: &Table) -> Result<(), Refusal> {
         }
     }
     if on("write-points-12") {
-        if let Ok(settled) = settle(steps, &table.edges) {
-            if count_points(&settled.edges, &find_rows(steps, &settled.edges)) > MAX_POINTS {
+        if let Ok(Placed { merged, rows, .. }) = place_table(table) {
+            if count_points(&merged, &rows) > MAX_POINTS {
                 return Err(Refusal::TooManyPoints);
             }
         }
