@@ -3,7 +3,7 @@
 use reference::random::Random;
 use reference::records::Record;
 use reference::soft::turn;
-use reference::table::{Edge, Kind};
+use reference::table::{Edge, Kind, TableEdge};
 use reference::writer::{bytes_of, fields_of, widen, write_widened, Draft, Field};
 
 use crate::shapes::{self, Shape};
@@ -82,6 +82,13 @@ pub fn dress(random: &mut Random, shape: &Shape, gaps: Gaps, weights: Weights) -
 
 pub fn draft(random: &mut Random, steps: usize, edges: Vec<Edge>) -> Draft {
     Draft { steps: (0..steps).map(|_| (any_kind(random), any_name(random))).collect(), edges, firmness: None }
+}
+
+/// The same of edges with their firmness, in edition 2.
+pub fn draft_of(random: &mut Random, steps: usize, edges: &[TableEdge]) -> Draft {
+    let firmness = edges.iter().map(|edge| u32::from(edge.soft)).collect();
+    let edges = edges.iter().map(|edge| edge.edge).collect();
+    Draft { firmness: Some(firmness), ..draft(random, steps, edges) }
 }
 
 /// Every count at its limit, and every step and edge as long as it can be in its fewest bytes.

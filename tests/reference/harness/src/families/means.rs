@@ -3,7 +3,7 @@
 use reference::random::Random;
 use reference::writer::write_table;
 
-use crate::drafts::draft;
+use crate::drafts::draft_of;
 use crate::fans::{self, Fan};
 use crate::judge::Judge;
 
@@ -19,5 +19,5 @@ pub fn near(judge: &mut Judge, random: &mut Random, group: usize) {
 }
 
 fn judge_fan(judge: &mut Judge, random: &mut Random, Fan { steps, edges }: Fan) {
-    judge.judge_order(&write_table(&draft(random, steps, edges)));
+    judge.judge_order(&write_table(&draft_of(random, steps, &edges)));
 }

@@ -6,7 +6,7 @@ use reference::soft::turn;
 use reference::table::{Edge, TableEdge, LIMITS, OLD_LIMITS};
 use reference::writer::{write_table, Draft};
 
-use crate::drafts::{draft, records_of};
+use crate::drafts::{draft, draft_of, records_of};
 use crate::judge::Judge;
 use crate::shapes::STEPS;
 
@@ -26,9 +26,7 @@ pub fn tall(judge: &mut Judge, random: &mut Random, group: usize) {
 /// The must edges of the chain have gap 1, and soft ones against them, which are turned, the gaps that force the rows.
 pub fn tall_soft(judge: &mut Judge, random: &mut Random, group: usize) {
     let (steps, edges) = tall_edges(random, true);
-    let firmness = edges.iter().map(|edge| u32::from(edge.soft)).collect();
-    let edges = edges.iter().map(|edge| edge.edge).collect();
-    judge_tall(judge, group, &Draft { firmness: Some(firmness), ..draft(random, steps, edges) });
+    judge_tall(judge, group, &draft_of(random, steps, &edges));
 }
 
 /// The program `chart` prints numbers of rows that the calls do not tell, so it gets more of these tables than of others.
