@@ -11,6 +11,8 @@ pub struct MergedEdge {
     pub edge: Edge,
     /// The number of its first edge in the table.
     pub number: usize,
+    /// How many edges it stands for.
+    pub count: usize,
 }
 
 /// In the order of their first edges.
@@ -32,7 +34,7 @@ fn merge_group(numbers: &[usize], settled: &Settled) -> MergedEdge {
     let laid = || numbers.iter().map(|&number| settled.edges[number]);
     let gap = laid().map(|edge| edge.gap).max().expect("a group has an edge");
     let weight = laid().map(|edge| edge.weight).sum();
-    MergedEdge { edge: Edge { gap, weight, ..settled.edges[number] }, number }
+    MergedEdge { edge: Edge { gap, weight, ..settled.edges[number] }, number, count: numbers.len() }
 }
 
 pub fn edges_of(merged: &[MergedEdge]) -> Vec<Edge> {

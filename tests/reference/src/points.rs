@@ -27,7 +27,7 @@ pub fn place_points(merged: &[MergedEdge], rows: &[usize]) -> Layout {
     let mut row_of = rows.to_vec();
     let mut edge_of = vec![None; rows.len()];
     let mut pieces = Vec::new();
-    for &MergedEdge { edge, number } in merged {
+    for &MergedEdge { edge, number, .. } in merged {
         let mut upper = edge.from;
         for row in rows[edge.from] + 1..rows[edge.to] {
             let point = row_of.len();

@@ -8,7 +8,7 @@ use reference::table::Edge;
 /// Merged edges with these ends, each of one edge; two with the same ends are of unlike firmness.
 fn merged(ends: &[(usize, usize)]) -> Vec<MergedEdge> {
     let edge = |&(from, to)| Edge { from, to, gap: 1, weight: 1 };
-    ends.iter().map(edge).enumerate().map(|(number, edge)| MergedEdge { edge, number }).collect()
+    ends.iter().map(edge).enumerate().map(|(number, edge)| MergedEdge { edge, number, count: 1 }).collect()
 }
 
 fn layout(rows: &[usize], ends: &[(usize, usize)]) -> Layout {

@@ -7,6 +7,7 @@ mod graphs;
 mod limits;
 mod loops;
 mod means;
+mod merged;
 mod old;
 mod points;
 mod records;
@@ -52,6 +53,8 @@ pub const FAMILIES: &[Family] = &[
     fixed("written names", 1, shortest::names),
     fixed("all tiny graphs", graphs::TINY_GRAPHS, graphs::all_tiny),
     fixed("all tiny soft graphs", graphs::TINY_GRAPHS, soft::all_tiny),
+    fixed("all repeated edges", merged::ALL_LISTS, merged::all_lists),
+    fixed("equal edges", merged::EQUAL, merged::all_equal),
     fixed("all short tables", bytes::SHORT_TABLES, bytes::all_short),
     fixed("all short soft edges", bytes::SHORT_TABLES, bytes::all_short_soft),
     endless("tiny", 6000, graphs::tiny),
@@ -61,6 +64,8 @@ pub const FAMILIES: &[Family] = &[
     endless("soft before must", 1000, soft::before_must),
     endless("soft after must", 1000, soft::after_must),
     endless("soft parallel", 1000, soft::parallel),
+    endless("repeated edges", 1500, merged::repeated),
+    endless("heavy lines", 200, merged::heavy),
     endless("soft loops", 2000, soft::loops),
     endless("loops", 2000, loops::any_loop),
     endless("loops after tails", 1000, loops::after_tail),
@@ -85,6 +90,8 @@ pub const FAMILIES: &[Family] = &[
     endless("point limit", 600, points::near_limit),
     endless("soft point limit", 200, points::soft_near_limit),
     endless("wide point limit", 100, points::wide_near_limit),
+    endless("repeated point limit", 120, points::repeated_near_limit),
+    endless("most segments", 60, points::most_segments),
     endless("tall", 200, tall::tall),
     endless("tall soft", 120, tall::tall_soft),
     endless("old limits", 200, old::within),

@@ -62,15 +62,17 @@ fn blocks(owners: &[usize]) -> Vec<usize> {
 
 /// Two points whose ends stand apart: no other charts have products so large.
 const APART: [fn(usize) -> Fan; 3] = [apart_above, apart_below, apart_in_row_0];
-/// With fewer or more ends at the right, some edge would lead to neither of the two.
-const FEWEST: usize = 12;
+/// How many ends the one has: with fewer or more, some edge would lead to neither of the two. With 122 the product is the
+/// largest.
+const FEWEST: usize = 14;
 const MOST: usize = 281;
+const EVERY: usize = 3;
 /// How many charts there are of these.
-pub const LARGEST: usize = APART.len() * (MOST + 1 - FEWEST);
+pub const LARGEST: usize = APART.len() * (1 + (MOST - FEWEST) / EVERY);
 
-/// Each kind with every number of ends.
+/// Each kind with every third number of ends.
 pub fn largest(at: usize) -> Fan {
-    APART[at % APART.len()](FEWEST + at / APART.len())
+    APART[at % APART.len()](FEWEST + EVERY * (at / APART.len()))
 }
 
 /// Of two steps in row 4, the first has so many ends at the right of a row of as many points as there are edges, and the second
@@ -131,13 +133,13 @@ fn apart_in_row_0(count: usize) -> Fan {
 
 /// Means that are equal or nearly so, and others around them.
 const NEAR: [fn(&mut Random, usize) -> Fan; 5] = [within, nearest_above, nearest_in_row_0, nearest_below, around];
-const COUNTS: usize = EDGES - 1;
-/// How many charts have each kind with every number of ends, as far as it can have them.
+const COUNTS: usize = EDGES / 2;
+/// How many charts have each kind with every odd number of ends, as far as it can have them.
 pub const NEAREST: usize = NEAR.len() * COUNTS;
 
 /// Beyond `NEAREST` the numbers come again, with other charts.
 pub fn near(random: &mut Random, at: usize) -> Fan {
-    NEAR[at % NEAR.len()](random, 1 + at / NEAR.len() % COUNTS)
+    NEAR[at % NEAR.len()](random, 1 + at / NEAR.len() % COUNTS * 2)
 }
 
 /// The ends of one step stand in the midst of those of another; either may be the first.
@@ -282,7 +284,8 @@ fn between(random: &mut Random, count: usize) -> Fan {
 /// Any lines between some upper steps and some lower ones, the first of these with more than others.
 fn any_lines(random: &mut Random, first: usize) -> Fan {
     let (upper, lower) = (random.between(10, 60), random.between(2, 30));
-    let mut pairs: Vec<(usize, usize)> = (0..upper * lower * BESIDE).map(|at| (at / BESIDE % upper, at / BESIDE / upper)).collect();
+    let mut pairs: Vec<(usize, usize)> =
+        (0..upper * lower * BESIDE).map(|at| (at / BESIDE % upper, at / BESIDE / upper)).collect();
     random.shuffle(&mut pairs[..BESIDE * upper]);
     random.shuffle(&mut pairs[(BESIDE * upper).min(first)..]);
     let gap = any_gap(random);

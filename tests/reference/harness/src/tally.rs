@@ -4,6 +4,7 @@ use std::time::Duration;
 
 use reference::chart::Chart;
 use reference::order::PASSES;
+use reference::points::MAX_POINTS;
 
 use crate::host::{CALLS, CHART, CONVERT, RECORDS, WRITE};
 
@@ -24,6 +25,9 @@ pub struct Tally {
     by_pass: [u64; PASSES + 1],
     /// Charts with turned edges, and how many these are.
     turned: (u64, usize),
+    /// Charts with merged edges that stand for several, and how many edges these are; and charts with more points than there
+    /// may be, if each edge were drawn by itself.
+    merged: (u64, usize, u64),
     /// Tables with rows that no byte holds, and the highest row of all.
     tall: (u64, usize),
     /// By the call, tables written, and those of them that came in more bytes.
@@ -44,6 +48,7 @@ impl Tally {
             by_refusal: [0; REFUSALS + 1],
             by_pass: [0; PASSES + 1],
             turned: (0, 0),
+            merged: (0, 0, 0),
             tall: (0, 0),
             written: [(0, 0); CALLS.len()],
             spent: [Duration::ZERO; CALLS.len()],
@@ -65,6 +70,10 @@ impl Tally {
         let turned = chart.turned.iter().filter(|&&turned| turned).count();
         self.turned.0 += u64::from(turned > 0);
         self.turned.1 += turned;
+        let several: usize = chart.merged.iter().map(|each| each.count).filter(|&count| count > 1).sum();
+        self.merged.0 += u64::from(several > 0);
+        self.merged.1 += several;
+        self.merged.2 += u64::from(chart.points_by_edge() > MAX_POINTS);
     }
 
     pub fn note_rows(&mut self, rows: &[usize]) {
@@ -102,6 +111,9 @@ impl Tally {
         }
         println!("charts by the pass that gives the order, from the start on: {:?}", self.by_pass);
         println!("charts with turned edges: {}, turned edges in them: {}", self.turned.0, self.turned.1);
+        let (charts, several, beyond) = self.merged;
+        println!("charts with repeated edges: {charts}, repeated edges in them: {several}");
+        println!("charts of more than {MAX_POINTS} points if each edge were drawn by itself: {beyond}");
         println!("tables with rows above {}: {}, highest row {}", u8::MAX, self.tall.0, self.tall.1);
         for (call, what) in [(WRITE, "written"), (CONVERT, "converted")] {
             let (tables, shorter) = self.written[call];

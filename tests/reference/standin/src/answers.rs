@@ -12,7 +12,7 @@ use reference::table::{LIMITS, OLD_LIMITS};
 use crate::fault::on;
 use crate::wrong_chart::draw;
 use crate::wrong_entries;
-use crate::wrong_merged::merge;
+use crate::wrong_merged::{count_merged, merge};
 use crate::wrong_rows;
 use crate::wrong_soft;
 use crate::wrong_table::read;
@@ -22,8 +22,13 @@ pub fn counts(table: &[u8]) -> u64 {
     if on("table-changed") && !table.is_empty() {
         unsafe { (table.as_ptr() as *mut u8).write_volatile(table[0] ^ 1) };
     }
-    let answer = calls::counts(&read("counts", table, false));
-    calls::pack(if on("counts-edges-8-bits") { answer.map(|packed| packed & 0xff_ffff) } else { answer })
+    let read = read("counts", table, false);
+    let answer = calls::counts(&read);
+    calls::pack(match read {
+        Ok(table) if on("counts-merged") => Ok((table.steps.len() as u64) << 8 | (count_merged(&table) as u64) << 16),
+        _ if on("counts-edges-8-bits") => answer.map(|packed| packed & 0xff_ffff),
+        _ => answer,
+    })
 }
 
 pub fn name(table: &[u8], step: usize) -> u64 {

@@ -1,6 +1,7 @@
 //! The whole chart and its wrong variants.
 
 use reference::chart::Chart;
+use reference::merged::MergedEdge;
 use reference::points::{count_points, place_points, Layout, MAX_POINTS};
 use reference::records::rows_of_edges;
 use reference::refusal::Refusal;
@@ -8,7 +9,7 @@ use reference::soft::Settled;
 use reference::table::{read_table, Edge, Table};
 
 use crate::fault::on;
-use crate::wrong_merged::merge;
+use crate::wrong_merged::{merge, number_by_edge, one_of_parallel, repeat_pieces};
 use crate::wrong_order::find_order;
 use crate::wrong_soft;
 
@@ -27,7 +28,6 @@ pub fn draw(table: &Table) -> Result<Chart, Refusal> {
     let handed_out = wrong_soft::rows(table.steps.len(), &settled)?;
     let rows = rows_of_edges(table.steps.len(), &settled.edges)?;
     let merged = merge(&table.edges, &settled);
-    let Settled { edges, turned } = settled;
     let most = if on("points-1025") {
         MAX_POINTS + 1
     } else if on("points-1023") {
@@ -35,16 +35,29 @@ pub fn draw(table: &Table) -> Result<Chart, Refusal> {
     } else {
         MAX_POINTS
     };
-    if count_points(&merged, &rows) > most {
+    let each: Vec<MergedEdge> = settled.edges.iter().map(|&edge| MergedEdge { edge, number: 0, count: 1 }).collect();
+    let judged = if on("merged-12-before") { &each } else { &merged };
+    if count_points(judged, &rows) > most {
         return Err(Refusal::TooManyPoints);
     }
-    let layout = renumber(place_points(&merged, &rows), &turned);
-    let (order, crossings) = find_order(&layout);
-    let total = total(&edges, &turned, &handed_out);
-    Ok(Chart { total, rows: handed_out, turned, layout, order, crossings, best_pass: 0 })
+    let mut layout = renumber(place_points(&merged, &rows), &settled.turned);
+    repeat_pieces(&mut layout, &merged, &rows);
+    let (mut order, crossings) = find_order(&layout);
+    if on("merged-points-each") {
+        let number = number_by_edge(&layout, &settled, &rows);
+        order.iter_mut().flatten().for_each(|point| *point = number[*point]);
+    }
+    if on("merged-count-each") {
+        layout.row_of.resize(count_points(&each, &rows), 0);
+    }
+    let total = total(&settled, &handed_out);
+    Ok(Chart { total, rows: handed_out, turned: settled.turned, merged, layout, order, crossings, best_pass: 0 })
 }
 
-fn total(edges: &[Edge], turned: &[bool], rows: &[usize]) -> u64 {
+fn total(Settled { edges, turned }: &Settled, rows: &[usize]) -> u64 {
+    if let Some(joined) = one_of_parallel("total-merged-", edges) {
+        return reference::rows::total(&joined, rows);
+    }
     let term = |(edge, &turned): (&Edge, &bool)| {
         let length = rows[edge.to].saturating_sub(rows[edge.from]) as u64;
         if on("total-of-kept") && turned {
@@ -58,10 +71,11 @@ fn total(edges: &[Edge], turned: &[bool], rows: &[usize]) -> u64 {
         }
     };
     let total: u64 = edges.iter().zip(turned).map(term).sum();
-    if on("total-18-bits") {
-        total & 0x3_ffff
-    } else {
-        total
+    let cut = |bits: u32| total & ((1 << bits) - 1);
+    match () {
+        _ if on("total-19-bits") => cut(19),
+        _ if on("total-24-bits") => cut(24),
+        _ => total,
     }
 }
 

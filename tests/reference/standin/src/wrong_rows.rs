@@ -7,6 +7,7 @@ use reference::rows::{find_rows, lowest_rows, row_count};
 use reference::table::{Edge, LIMITS, OLD_LIMITS};
 
 use crate::fault::on;
+use crate::wrong_merged::one_of_parallel;
 
 pub fn rows(steps: usize, edges: &[Edge]) -> Result<Vec<usize>, Refusal> {
     if on("refuse-11-always") {
@@ -82,6 +83,8 @@ fn wrong_rows(edges: &[Edge], mut rows: Vec<usize>) -> Vec<usize> {
         find_rows(steps, &bound)
     } else if on("rows-parallel-once") {
         find_rows(steps, &weigh_once(edges))
+    } else if let Some(joined) = one_of_parallel("rows-merged-", edges) {
+        find_rows(steps, &joined)
     } else if on("rows-weights-ignored") {
         changed(|edge| Edge { weight: 1, ..*edge })
     } else if on("rows-gaps-ignored") {

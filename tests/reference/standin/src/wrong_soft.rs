@@ -33,6 +33,9 @@ fn turned_edges(steps: usize, edges: &[TableEdge]) -> Vec<bool> {
     if on("soft-from-last") {
         places.reverse();
     }
+    if on("soft-at-last") {
+        places.sort_by_key(|&at| last_like(edges, at));
+    }
     let mut turned = vec![false; edges.len()];
     for at in places {
         let TableEdge { edge, soft } = edges[at];
@@ -43,6 +46,12 @@ fn turned_edges(steps: usize, edges: &[TableEdge]) -> Vec<bool> {
         }
     }
     turned
+}
+
+/// The last edge with the same ends and firmness.
+fn last_like(edges: &[TableEdge], at: usize) -> usize {
+    let key = |at: usize| (edges[at].edge.from, edges[at].edge.to, edges[at].soft);
+    (at..edges.len()).rev().find(|&other| key(other) == key(at)).unwrap_or(at)
 }
 
 /// Whether edges lead from one step to another: a set of steps that grows by an edge's length in each round.

@@ -71,6 +71,7 @@ const SPOILED: &[(&str, fn(&mut Said))] = &[
     ("write-step-last", |said| repeat(&mut said.steps, LIMITS.steps as usize - 1)),
     ("write-edge-last", |said| repeat(&mut said.edges, LIMITS.edges as usize - 1)),
     ("write-edges-joined", |said| said.edges.dedup()),
+    ("write-edges-merged", |said| said.edges = merged(&said.edges)),
     ("write-must-first", |said| said.edges.sort_by_key(|edge| edge.soft)),
     ("write-weight-0-lost", |said| said.edges.retain(|edge| edge.edge.weight > 0)),
     ("write-turned", |said| {
@@ -93,6 +94,22 @@ const SPOILED: &[(&str, fn(&mut Said))] = &[
 fn look_at(said: &mut Said, some: fn(&[TableEdge]) -> &[TableEdge]) {
     let kept = some(&said.edges).iter().any(|edge| edge.soft);
     said.edges.iter_mut().for_each(|edge| edge.soft &= kept);
+}
+
+/// Repeated edges as one, with the largest gap and as much of their weights as an edge can have.
+fn merged(edges: &[TableEdge]) -> Vec<TableEdge> {
+    let mut merged: Vec<TableEdge> = Vec::new();
+    let key = |edge: &TableEdge| (edge.edge.from, edge.edge.to, edge.soft);
+    for edge in edges {
+        match merged.iter_mut().find(|known| key(known) == key(edge)) {
+            Some(known) => {
+                known.edge.gap = known.edge.gap.max(edge.edge.gap);
+                known.edge.weight = (known.edge.weight + edge.edge.weight).min(*LIMITS.weight.end());
+            }
+            None => merged.push(*edge),
+        }
+    }
+    merged
 }
 
 /// The item before stands at this place too.

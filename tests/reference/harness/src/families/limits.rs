@@ -120,7 +120,7 @@ const EDGE_COUNTS: [usize; 11] =
     [1, OLD_EDGES - 1, OLD_EDGES, OLD_EDGES + 1, 255, 256, 257, EDGES - 1, EDGES, EDGES + 1, EDGES + 2];
 
 fn count_limits() -> Vec<Draft> {
-    let mut drafts = vec![largest_total()];
+    let mut drafts = vec![largest_total(), most_points()];
     for steps in STEP_COUNTS {
         drafts.push(chain(steps, Kind::Check, b"s", 0, 1, 1));
         drafts.push(chain(steps, Kind::Check, b"s", steps.saturating_sub(1).min(EDGES), 4, 255));
@@ -134,19 +134,27 @@ fn count_limits() -> Vec<Draft> {
     drafts
 }
 
-/// The largest total that a chart can have: lengths add up to the edges and the dummies, and every weight is the largest.
-/// With more than three steps there are fewer dummies, and two steps are too near for so many. Rows are 0, 4 and 7.
+/// The largest total that a chart can have. The links of a chain to row R are at least R / 4 edges, of length 4 at most, and no
+/// edge is longer than R; so the longest chain is best, and all other edges from its start to its end, as one line.
 fn largest_total() -> Draft {
-    let dummies = MAX_POINTS - 3;
-    let counted = |long: usize, short: usize| Some([long, short, EDGES.checked_sub(long + short)?]);
-    let counts = (0..EDGES)
-        .flat_map(|long| (1..3).filter_map(move |short| counted(long, short)))
-        .find(|[long, short, others]| 6 * long + 2 * short + 3 * others == dummies)
-        .expect("points can be counted out");
-    let edge = |from, to, gap| Edge { from, to, gap, weight: 255 };
-    let kinds = [edge(0, 2, 1), edge(1, 2, 3), edge(0, 1, 4)];
-    let edges = kinds.into_iter().zip(counts).flat_map(|(edge, count)| vec![edge; count]).collect();
-    Draft { edges, ..chain(3, Kind::Check, b"t", 0, 1, 1) }
+    let mut draft = chain(STEPS, Kind::Check, b"t", STEPS - 1, 4, 255);
+    draft.edges.resize(EDGES, Edge { from: 0, to: STEPS - 1, gap: 1, weight: 255 });
+    draft
+}
+
+/// As many points as there may be: lines from the start of a chain past its links, the longest first, and steps for the rest.
+fn most_points() -> Draft {
+    const LINKS: usize = 32;
+    let mut draft = chain(LINKS + 1, Kind::Check, b"p", LINKS, 4, 1);
+    let mut left = MAX_POINTS - (4 * LINKS + 1);
+    for to in (2..=LINKS).rev() {
+        if let Some(rest) = left.checked_sub(4 * to - 1) {
+            left = rest;
+            draft.edges.push(Edge { from: 0, to, gap: 1, weight: 1 });
+        }
+    }
+    draft.steps.resize(LINKS + 1 + left, (Kind::Check, b"p".to_vec()));
+    draft
 }
 
 fn range_limits() -> Vec<Draft> {

@@ -4,13 +4,16 @@ use host::fault::on;
 use host::wrong_chart::SAMPLE;
 use host::wrong_table::{OLD_EDGES, OLD_STEPS};
 use reference::bounds::longest_table;
-use reference::chart::draw_chart;
+use reference::chart::{draw_chart, draw_placed, Chart};
 use reference::convert::convert_table;
 use reference::listing::{list_chart, print_chart};
+use reference::merged::MergedEdge;
 use reference::order::{count_crossings, run_pass, start_order, PASSES};
 use reference::points::Layout;
 use reference::program::{judged_bytes, run, MAX_INPUT};
-use reference::table::{read_table, read_within, OLD_LIMITS};
+use reference::refusal::Refusal;
+use reference::soft::{place_table, Placed};
+use reference::table::{read_table, read_within, Table, OLD_LIMITS};
 
 fn main() {
     run(|input| spoil(&input));
@@ -49,7 +52,11 @@ fn spoil(input: &[u8]) -> Vec<u8> {
 
 fn spoil_listing(input: &[u8]) -> Vec<u8> {
     let table = read_table(input).unwrap();
-    let mut chart = draw_chart(&table).unwrap();
+    let drawn = if on("print-merged-never") { draw_each(&table) } else { draw_chart(&table) };
+    let mut chart = match drawn {
+        Ok(chart) => chart,
+        Err(refusal) => return refusal.line(),
+    };
     if on("print-point-number") {
         for (point, edge) in chart.layout.edge_of.iter_mut().enumerate() {
             *edge = edge.map(|_| point);
@@ -62,6 +69,7 @@ fn spoil_listing(input: &[u8]) -> Vec<u8> {
     if on("print-bar-turned") {
         chart.turned.fill(false);
     }
+    spoil_numbers(&table, &mut chart);
     if on("print-last-crossings") {
         chart.crossings = last_crossings(&chart.layout);
     }
@@ -70,11 +78,48 @@ fn spoil_listing(input: &[u8]) -> Vec<u8> {
             row.sort_by_key(|&point| chart.layout.edge_of[point].is_some());
         }
     }
-    let listing = list_chart(input, &table, &chart);
+    let mut listing = list_chart(input, &table, &chart);
+    if on("print-merged-header") {
+        let text = String::from_utf8_lossy(&listing);
+        let start = |edges: usize| format!("chart {} {edges} ", table.steps.len());
+        listing = text.replacen(&start(table.edges.len()), &start(chart.merged.len()), 1).into_bytes();
+    }
     if on("print-row-byte") {
         return cut_rows(&listing);
     }
     listing
+}
+
+/// Each edge of the table drawn by itself.
+fn draw_each(table: &Table) -> Result<Chart, Refusal> {
+    let Placed { settled, rows, .. } = place_table(table)?;
+    let each = |(number, &edge)| MergedEdge { edge, number, count: 1 };
+    let merged = settled.edges.iter().enumerate().map(each).collect();
+    draw_placed(Placed { settled, merged, rows })
+}
+
+/// Other numbers at the pass points, or other marks.
+fn spoil_numbers(table: &Table, chart: &mut Chart) {
+    let key = |number: usize| (table.edges[number].edge.from, table.edges[number].edge.to, table.edges[number].soft);
+    let line = |number: usize| chart.merged.iter().position(|each| each.number == number).expect("a merged edge");
+    let other = |number: usize| match () {
+        _ if on("print-merged-last") => (0..table.edges.len()).rev().find(|&last| key(last) == key(number)).unwrap(),
+        _ if on("print-merged-count") => line(number),
+        _ if on("print-number-8-bits") => number & 0xff,
+        _ => number,
+    };
+    let marks: Vec<bool> = match () {
+        _ if on("print-merged-mark") => (0..table.edges.len())
+            .map(|number| chart.merged.iter().any(|each| each.number == number) && chart.turned[line(number)])
+            .collect(),
+        _ => chart.turned.clone(),
+    };
+    let mut turned = marks.clone();
+    for edge in chart.layout.edge_of.iter_mut().flatten() {
+        turned[other(*edge)] = marks[*edge];
+        *edge = other(*edge);
+    }
+    chart.turned = turned;
 }
 
 /// Of each number of a row its low byte.
