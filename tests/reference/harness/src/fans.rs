@@ -76,11 +76,12 @@ pub fn largest(at: usize) -> Fan {
 }
 
 /// Of two steps in row 4, the first has so many ends at the right of a row of as many points as there are edges, and the second
-/// all others, at the left: the third pass puts the first behind the second.
+/// all others, at the left. Their row stands so in the third pass.
 ///
-/// That takes as many lines as two steps with all others above them can have but three, so three steps lead to both. They stand
-/// in three rows, and the passes bring the points of each between those of the next: in row 2, behind the ones that lead to the
-/// left, two that lead to the right come before the one that leads to both, or an up pass would not move it behind the others'.
+/// The 94 other steps have 282 lines if each leads to one of the two, so three lead to both. Side by side, lines of the one to
+/// the right would stand before lines of the next to the left; so they are in three rows, and the passes put each between the
+/// lines of those above it. Two steps that lead to the right are numbered before the lowest of the three, or the first up pass
+/// would not move it far enough.
 fn apart_above(count: usize) -> Fan {
     const SHARED: usize = 3;
     let others = EDGES - count;

@@ -2,7 +2,10 @@
 
 /// Each table with what `chart` prints for it.
 pub fn charts() -> Vec<(Vec<u8>, String)> {
-    ["chart.txt", "soft.txt", "forms.txt", "bigger.txt", "merged.txt"].iter().flat_map(|name| read_lines(&read_file(name))).collect()
+    ["chart.txt", "soft.txt", "forms.txt", "bigger.txt", "merged.txt"]
+        .iter()
+        .flat_map(|name| read_lines(&read_file(name)))
+        .collect()
 }
 
 fn read_file(name: &str) -> String {
