@@ -15,7 +15,7 @@ trickle() {
 }
 
 # The files of tables with what chart prints for each.
-charts='tests/chart.txt tests/soft.txt tests/forms.txt tests/bigger.txt'
+charts='tests/chart.txt tests/soft.txt tests/forms.txt tests/bigger.txt tests/merged.txt'
 # The tables of stored lines, and what stands behind them.
 tables() { sed -e '/^#/d' -e '/^$/d' -e 's/ -> .*//' "$@"; }
 results() { sed -e '/^#/d' -e '/^$/d' -e 's/.* -> //' "$@"; }
@@ -54,7 +54,7 @@ make_longest_forms() {
 }
 # number_of FILE NUMBER: ends the test where the file has another number of bytes
 number_of() {
-    [ "$(wc -c <"$1")" -eq "$2" ] || { echo "$test: a table of $(wc -c <"$1") bytes that should have $2"; exit 1; }
+    [ "$(wc -c <"$1")" -eq "$2" ] || { echo "$test: a file of $(wc -c <"$1") bytes that should have $2"; exit 1; }
 }
 
 # same WHAT FILE FILE: ends the test where the files differ
