@@ -33,7 +33,7 @@ enum {
   YUVATONDRO_BAD_END = 9,       /* an end of an edge is no step, or both are the same */
   YUVATONDRO_SPARE = 10,        /* bytes follow the last edge */
   YUVATONDRO_LOOP = 11,         /* must edges form a loop: yuvatondro_loop_step tells the step */
-  YUVATONDRO_MANY_POINTS = 12,  /* more than YUVATONDRO_MAX_POINTS points */
+  YUVATONDRO_MANY_POINTS = 12,  /* more than YUVATONDRO_MAX_POINTS points, as yuvatondro_chart counts them */
   YUVATONDRO_SHORT_BUFFER = 13, /* a buffer is too short for what the call puts in it */
   YUVATONDRO_NO_STEP = 14,      /* the table has no step of that number */
   YUVATONDRO_BAD_FIRMNESS = 15  /* a firmness above 1 */
@@ -80,13 +80,18 @@ uint64_t yuvatondro_rows(const uint8_t *table, size_t table_len, uint16_t *rows,
  * over are no edge. All are must. Refuses by 4, 8, then each edge in turn by 9 and 6, then 11, 13. */
 uint64_t yuvatondro_records(size_t steps, const size_t *records, size_t numbers, uint16_t *rows, size_t rows_len);
 
-/* The whole chart of a table: its rows as above, and to `order` its points, row by row from row 0 and each row from left to right. A
- * step's point has the step's number; the dummies follow, by edge and then by rising row. Answers how many points there are, the
- * weighted total of the rows, and the crossings of the order. Refuses by 1 to 10 and 15, then 11, 12, 13.
+/* The whole chart of a table: its rows as above, and to `order` its points, row by row from row 0 and each row from left to right.
+ * Answers how many points there are, the weighted total of the rows, and the crossings of the order. Refuses by 1 to 10 and 15, then 11,
+ * 12, 13. YUVATONDRO_MAX_POINTS entries of `order` are always enough.
  *
- * Points, total and crossings too are of the edges as kept or turned. A drawing can tell from the rows which edges are turned: those
- * whose tail in the table stands in a larger row than their head. Such an edge has its dummies by rising row as well, so that its
- * first one is next to its head. */
+ * Edges to which the table gives the same from, the same to and the same firmness are drawn as one line; up to version 1.5 each had a line
+ * of its own. The line stands at the place of the first of them and has its number, the largest of their gaps, and their weights added.
+ * Rows and total are the same for the lines as for the edges one by one. Points and crossings are those of the lines, and so are
+ * refusal 12 and the entries that `order` needs. A step's point has the step's number; the dummies follow, by line and then by rising row.
+ *
+ * The edges of a line are all kept or all turned, and it is drawn as they are. A drawing can tell from the rows which are turned: those
+ * whose tail in the table stands in a larger row than their head. Such a line has its dummies by rising row as well, so that its first one
+ * is next to its head. Between the same two steps there may be a must line, a soft one that was kept and one that was turned. */
 uint64_t yuvatondro_chart(const uint8_t *table, size_t table_len, uint16_t *rows, size_t rows_len, uint16_t *order, size_t order_len);
 static inline unsigned yuvatondro_points(uint64_t chart) { return (unsigned)(chart >> 8 & 0x7FF); }
 static inline unsigned long yuvatondro_total(uint64_t chart) { return (unsigned long)(chart >> 19 & 0x1FFFFFF); }
@@ -94,7 +99,7 @@ static inline unsigned long yuvatondro_crossings(uint64_t chart) { return (unsig
 
 /* The shortest form of a table, to `out`: the same steps and edges in the same order, every number in its fewest bytes, edition 1 if no
  * edge is soft and else 2. Answers how many bytes it wrote. Refuses by 1 to 10 and 15, then 13. No loop is looked for, and no edge is
- * turned: what the table says is written whether or not it has rows.
+ * turned or joined with another: what the table says is written whether or not it has rows.
  *
  * Tables that say the same, firmness included, have the same shortest form, so that they can be compared by bytes; it is read as the
  * table is, is its own shortest form, and no table that says the same is shorter. So a buffer as long as the table is always long
