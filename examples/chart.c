@@ -2,7 +2,7 @@
  * one for stored tables in stored.c. */
 #include "chart.h"
 
-/* The counts, the name of each step, the shortest form of the table, and the edges. */
+/* The counts, the name of each step, the shortest form of the table, the edges, and their lines. */
 static uint64_t ask_steps(Chart *chart) {
   uint64_t answer = yuvatondro_counts(chart->table, chart->table_len);
   if (yuvatondro_refusal(answer) != YUVATONDRO_DONE) return answer;
@@ -17,7 +17,8 @@ static uint64_t ask_steps(Chart *chart) {
   answer = yuvatondro_write(chart->table, chart->table_len, chart->shortest, YUVATONDRO_MAX_SHORTEST);
   if (yuvatondro_refusal(answer) != YUVATONDRO_DONE) return answer;
   chart->shortest_len = yuvatondro_written(answer);
-  read_edges(chart, chart->edge);
+  read_edges(chart);
+  merge_edges(chart);
   chart->known = STEPS;
   return YUVATONDRO_DONE;
 }

@@ -6,7 +6,7 @@
 
 #include "yuvatondro.h"
 
-/* Rows count from 0. Each edge has a segment more than it has dummies. */
+/* Rows count from 0. Each line has a segment more than it has dummies, and there are no more lines than edges. */
 enum { MAX_ROWS = YUVATONDRO_MAX_ROW + 1, MAX_SEGMENTS = YUVATONDRO_MAX_POINTS + YUVATONDRO_MAX_EDGES };
 
 /* As the table has it: the ends of a turned edge are not exchanged here. */
@@ -14,9 +14,15 @@ typedef struct {
   size_t from, to, gap, weight, soft;
 } Edge;
 
-/* A part of an edge, between neighbouring rows. */
+/* What is drawn as one line: the edges of one tail, one head and one firmness. It has the largest of their gaps and their weights added. */
 typedef struct {
-  unsigned upper, lower, edge;
+  unsigned first; /* the number of the first of them */
+  size_t gap, weight;
+} MergedEdge;
+
+/* A part of a line, between neighbouring rows. */
+typedef struct {
+  unsigned upper, lower, merged;
 } Segment;
 
 /* How much of a chart is known. */
@@ -28,10 +34,12 @@ typedef struct {
   Known known;
 
   /* known from STEPS on; a name is a stretch of the table */
-  unsigned steps, edges;
+  unsigned steps, edges, merged_edges;
   const uint8_t *name[YUVATONDRO_MAX_STEPS];
   size_t name_len[YUVATONDRO_MAX_STEPS];
   Edge edge[YUVATONDRO_MAX_EDGES];
+  MergedEdge merged[YUVATONDRO_MAX_EDGES];
+  unsigned edge_merged[YUVATONDRO_MAX_EDGES]; /* which of them an edge belongs to */
   uint8_t shortest[YUVATONDRO_MAX_SHORTEST];
   size_t shortest_len;
 
@@ -45,8 +53,8 @@ typedef struct {
   uint16_t order[YUVATONDRO_MAX_POINTS];
   unsigned row_start[MAX_ROWS + 1];
   unsigned point_row[YUVATONDRO_MAX_POINTS];
-  unsigned point_place[YUVATONDRO_MAX_POINTS]; /* from the left, from 0 */
-  unsigned point_edge[YUVATONDRO_MAX_POINTS];  /* of a dummy */
+  unsigned point_place[YUVATONDRO_MAX_POINTS];  /* from the left, from 0 */
+  unsigned point_merged[YUVATONDRO_MAX_POINTS]; /* of a dummy */
   Segment segment[MAX_SEGMENTS];
   unsigned below[MAX_SEGMENTS], below_start[MAX_ROWS + 1];
 } Chart;
@@ -58,13 +66,16 @@ int convert_stored(const uint8_t *table, size_t table_len, uint8_t *shortest, si
 /* chart.c: asks the library for all that it has to say of the table; its last answer, which is a refusal or not. */
 uint64_t ask_chart(Chart *chart, const uint8_t *table, size_t table_len);
 
-/* edges.c: the edges of the table; and, from ROWS on, whether an edge was turned, and the step at its upper and at its lower end. */
-void read_edges(const Chart *chart, Edge *edge);
+/* edges.c: the edges of the table, and the lines that they are drawn as; and, from ROWS on, whether an edge was turned, the step at its
+ * upper and at its lower end, and its length. All this is the same for a line as for its first edge. */
+void read_edges(Chart *chart);
+void merge_edges(Chart *chart);
 int is_turned(const Chart *chart, unsigned edge);
 unsigned upper_end(const Chart *chart, unsigned edge);
 unsigned lower_end(const Chart *chart, unsigned edge);
+unsigned length_of(const Chart *chart, unsigned edge);
 
-/* points.c: whether the points that the edges make, kept or turned, are those of the library's order; if so they are placed. */
+/* points.c: whether the points that the lines make, kept or turned, are those of the library's order; if so they are placed. */
 int place_points(Chart *chart);
 
 /* layout.c: a middle x for each point, from widths and the blank between neighbours in any unit; the least left side is 0. Gives the

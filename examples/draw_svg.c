@@ -1,7 +1,8 @@
-/* The chart as a picture: a rounded box a step, with its number and name, in its row; a line an edge, through its dummies, with its tip
- * where the table says that the edge ends; the numbers of the rows at the left. The line of a soft edge is dashed, and that of a turned
- * one has a colour of its own and leads up. Lines are upright within a row and slant only between rows, so none runs through a box, and
- * two lines cross only where the library counts a crossing. Hovering over a box or a line tells more of it. */
+/* The chart as a picture: a rounded box a step, with its number and name, in its row; a line for the edges of the same ends and firmness,
+ * through its dummies, with its tip where the table says that they end; the numbers of the rows at the left. The line of soft edges is
+ * dashed, and that of turned ones has a colour of its own and leads up. Lines are upright within a row and slant only between rows, so
+ * none runs through a box, and two lines cross only where the library counts a crossing. Hovering over a box or a line tells more of it;
+ * of a line, which edges it stands for, their largest gap and their weights added. */
 #include "chart.h"
 
 /* All lengths are in tenths of a pixel. */
@@ -41,10 +42,10 @@ static long box_width(const Chart *chart, unsigned step) {
   return 2 * BOX_PADDING + LETTER * (digits(step) + 1 + (long)chart->name_len[step]);
 }
 
-/* Whether segment a leaves (or enters) a box to the left of b: as their other ends stand, then by edge. */
+/* Whether segment a leaves (or enters) a box to the left of b: as their other ends stand, then by line. */
 static int is_left(const Chart *chart, const Segment *a, const Segment *b, int leaving) {
   unsigned place_a = chart->point_place[leaving ? a->lower : a->upper], place_b = chart->point_place[leaving ? b->lower : b->upper];
-  return place_a < place_b || (place_a == place_b && a->edge < b->edge);
+  return place_a < place_b || (place_a == place_b && a->merged < b->merged);
 }
 
 /* Where a segment meets a point: the middle of a dummy, or the segment's own port at the foot or the head of a box. */
@@ -171,38 +172,50 @@ static void draw_up(FILE *out, const Chart *chart, const Picture *p, unsigned fi
   }
 }
 
-static void put_edge_title(FILE *out, const Chart *chart, unsigned edge, unsigned length) {
-  const Edge *e = &chart->edge[edge];
-  fprintf(out, "<title>edge %u: %zu ", edge, e->from);
+/* The numbers of the edges that a line stands for. */
+static void put_numbers(FILE *out, const Chart *chart, unsigned merged) {
+  unsigned first = chart->merged[merged].first, others = 0;
+  for (unsigned i = first + 1; i < chart->edges; i++) others += chart->edge_merged[i] == merged;
+  fprintf(out, "edge%s %u", others > 0 ? "s" : "", first);
+  for (unsigned i = first + 1; i < chart->edges; i++)
+    if (chart->edge_merged[i] == merged) fprintf(out, ", %u", i);
+}
+
+static void put_line_title(FILE *out, const Chart *chart, unsigned merged, unsigned length) {
+  const MergedEdge *m = &chart->merged[merged];
+  const Edge *e = &chart->edge[m->first];
+  fprintf(out, "<title>");
+  put_numbers(out, chart, merged);
+  fprintf(out, ": %zu ", e->from);
   put_name(out, chart, e->from);
   fprintf(out, " to %zu ", e->to);
   put_name(out, chart, e->to);
-  fprintf(out, ", gap %zu, weight %zu, length %u%s%s</title>", e->gap, e->weight, length, e->soft ? ", soft" : "",
-          is_turned(chart, edge) ? ", turned" : "");
+  fprintf(out, ", gap %zu, weight %zu, length %u%s%s</title>", m->gap, m->weight, length, e->soft ? ", soft" : "",
+          is_turned(chart, m->first) ? ", turned" : "");
 }
 
-/* The line of an edge, whose segments stand together. Gives the segment behind the last of them. */
-static unsigned draw_edge(FILE *out, const Chart *chart, const Picture *p, unsigned first) {
-  unsigned end = first, edge = chart->segment[first].edge;
+/* A line, whose segments stand together. Gives the segment behind the last of them. */
+static unsigned draw_line(FILE *out, const Chart *chart, const Picture *p, unsigned first) {
+  unsigned end = first, merged = chart->segment[first].merged, edge = chart->merged[merged].first;
   int turned = is_turned(chart, edge);
-  while (end < chart->segments && chart->segment[end].edge == edge) end++;
+  while (end < chart->segments && chart->segment[end].merged == merged) end++;
   fprintf(out, "<path class=\"edge%s%s\" d=\"", chart->edge[edge].soft ? " soft" : "", turned ? " turned" : "");
   (turned ? draw_up : draw_down)(out, chart, p, first, end);
   fprintf(out, "\"");
   if (chart->edge[edge].soft) fprintf(out, " stroke-dasharray=\"5 3\"");
   if (turned) fprintf(out, " stroke=\"%s\" marker-end=\"url(#turned-tip)\"", TURNED_COLOUR);
   fprintf(out, ">");
-  put_edge_title(out, chart, edge, end - first);
+  put_line_title(out, chart, merged, end - first);
   fprintf(out, "</path>\n");
   return end;
 }
 
-static void draw_edges(FILE *out, const Chart *chart, const Picture *p) {
+static void draw_lines(FILE *out, const Chart *chart, const Picture *p) {
   fprintf(out,
           "<g class=\"edges\" fill=\"none\" stroke=\"%s\" stroke-width=\"1.1\" stroke-linejoin=\"round\" "
           "marker-end=\"url(#tip)\">\n",
           EDGE_COLOUR);
-  for (unsigned i = 0; i < chart->segments;) i = draw_edge(out, chart, p, i);
+  for (unsigned i = 0; i < chart->segments;) i = draw_line(out, chart, p, i);
   fprintf(out, "</g>\n");
 }
 
@@ -226,7 +239,7 @@ void draw_svg(FILE *out, const Chart *chart) {
   place_rows(chart, &p);
   open_picture(out, &p);
   draw_rows(out, chart, &p);
-  draw_edges(out, chart, &p);
+  draw_lines(out, chart, &p);
   fprintf(out, "<g class=\"steps\" text-anchor=\"middle\" fill=\"#f3f7fb\" stroke=\"#3f6184\" stroke-width=\"1.2\">\n");
   for (unsigned i = 0; i < chart->steps; i++) draw_step(out, chart, &p, i);
   fprintf(out, "</g>\n</svg>\n");

@@ -1,6 +1,6 @@
-/* The chart as text: a line a row, with its number. A step is its number and name in brackets; a bar with a number is an edge that passes
- * by on its way down, and ^ with a number one that was turned, on its way up. Edges between neighbouring rows are not drawn: the list of
- * edges has them. */
+/* The chart as text: a line a row, with its number. A step is its number and name in brackets; a bar with a number is a line that passes
+ * by on its way down, and ^ with a number one that was turned, on its way up; the number is that of its first edge. Lines between
+ * neighbouring rows are not drawn: the list of edges has them. */
 #include "chart.h"
 
 enum { UNITS = 16, LONGEST = 32 };
@@ -8,7 +8,7 @@ enum { UNITS = 16, LONGEST = 32 };
 /* The text of a point; gives its length. */
 static int point_text(const Chart *chart, unsigned point, char text[LONGEST]) {
   if (point >= chart->steps) {
-    unsigned edge = chart->point_edge[point];
+    unsigned edge = chart->merged[chart->point_merged[point]].first;
     return snprintf(text, LONGEST, "%c%u", is_turned(chart, edge) ? '^' : '|', edge);
   }
   return snprintf(text, LONGEST, "[%u %.*s]", point, (int)chart->name_len[point], (const char *)chart->name[point]);

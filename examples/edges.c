@@ -1,4 +1,4 @@
-/* The edges of a table, read here and not by the library.
+/* The edges of a table and their lines, read and joined here and not by the library.
  *
  * The calls hand out counts, names, rows and the order, but not the ends and the firmness of the edges, which a drawing needs. A host
  * program mostly made its table itself and has them; this one has only the bytes. They are walked without any check, because this is done
@@ -20,18 +20,47 @@ static size_t read_number(const uint8_t **at) {
 
 /* The edges stand behind the name of the last step and their own count. Without steps there are none. Firmness is a number of edition 2
  * only; the edges of edition 1 are all must. */
-void read_edges(const Chart *chart, Edge *edge) {
+void read_edges(Chart *chart) {
   if (chart->steps == 0) return;
   const uint8_t *at = chart->table;
   size_t edition = read_number(&at);
   at = chart->name[chart->steps - 1] + chart->name_len[chart->steps - 1];
   read_number(&at);
   for (unsigned i = 0; i < chart->edges; i++) {
-    edge[i].from = read_number(&at);
-    edge[i].to = read_number(&at);
-    edge[i].gap = read_number(&at);
-    edge[i].weight = read_number(&at);
-    edge[i].soft = edition == 1 ? 0 : read_number(&at);
+    Edge *e = &chart->edge[i];
+    e->from = read_number(&at);
+    e->to = read_number(&at);
+    e->gap = read_number(&at);
+    e->weight = read_number(&at);
+    e->soft = edition == 1 ? 0 : read_number(&at);
+  }
+}
+
+/* The line that an edge belongs to among those found so far, or their number if it is the first of a new one. */
+static unsigned find_merged(const Chart *chart, const Edge *e) {
+  unsigned i = 0;
+  for (; i < chart->merged_edges; i++) {
+    const Edge *first = &chart->edge[chart->merged[i].first];
+    if (first->from == e->from && first->to == e->to && first->soft == e->soft) break;
+  }
+  return i;
+}
+
+/* The library joins by the same rule where it places points: by the ends and the firmness that the table has, whatever the gaps and the
+ * weights are, and each line at the place of its first edge. */
+void merge_edges(Chart *chart) {
+  chart->merged_edges = 0;
+  for (unsigned i = 0; i < chart->edges; i++) {
+    const Edge *e = &chart->edge[i];
+    unsigned at = find_merged(chart, e);
+    MergedEdge *m = &chart->merged[at];
+    if (at == chart->merged_edges) {
+      *m = (MergedEdge){i, 0, 0};
+      chart->merged_edges++;
+    }
+    if (m->gap < e->gap) m->gap = e->gap;
+    m->weight += e->weight;
+    chart->edge_merged[i] = at;
   }
 }
 
@@ -44,4 +73,8 @@ unsigned upper_end(const Chart *chart, unsigned edge) {
 
 unsigned lower_end(const Chart *chart, unsigned edge) {
   return (unsigned)(is_turned(chart, edge) ? chart->edge[edge].from : chart->edge[edge].to);
+}
+
+unsigned length_of(const Chart *chart, unsigned edge) {
+  return (unsigned)(chart->row[lower_end(chart, edge)] - chart->row[upper_end(chart, edge)]);
 }

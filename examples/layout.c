@@ -1,16 +1,16 @@
 /* How far from the left each point is drawn. The order within the rows is the library's and is kept; only the distances are chosen here.
  *
  * Each row in turn is moved to where its points wish to be, down and up several times: a step wishes for the mean of the ends of its
- * segments, a dummy for the lane of its edge, so that long edges are straight. Within a row the wishes of neighbours may collide: then
+ * segments, a dummy for the lane of its line, so that long lines are straight. Within a row the wishes of neighbours may collide: then
  * those points become a block that moves as one, to the mean of its wishes (pool adjacent violators). All numbers are whole, so that
  * every machine draws the same picture. */
 #include "chart.h"
 
 enum {
   FIRST_ROUNDS = 8,  /* these bring the rows near to each other, one side at a time */
-  LANE_ROUNDS = 192, /* these look both ways and straighten long edges; edges of hundreds of rows need many */
+  LANE_ROUNDS = 192, /* these look both ways and straighten long lines; lines of hundreds of rows need many */
   LANE_WEIGHT = 32,  /* how much more the wish of a dummy counts than that of a segment's end */
-  DUMMY_PULL = 64    /* how much more a dummy counts than an end of the edge where a lane is found */
+  DUMMY_PULL = 64    /* how much more a dummy counts than an end of the line where a lane is found */
 };
 
 /* Whose ends count as wishes. */
@@ -39,16 +39,16 @@ static void wish(Wishes *w, unsigned point, long weight, long x) {
 
 static int is_dummy(const Chart *chart, unsigned point) { return point >= chart->steps; }
 
-/* The lane of each edge with dummies: where its line goes straight down, their mean place, drawn a little towards its ends. */
+/* The lane of each line with dummies: where it goes straight down, their mean place, drawn a little towards its ends. */
 static void find_lanes(const Chart *chart, const long *x, long *lane) {
   Block sum[YUVATONDRO_MAX_EDGES] = {{0, 0, 0}};
   for (unsigned i = 0; i < chart->segments; i++) {
     const Segment *s = &chart->segment[i];
     long upper = is_dummy(chart, s->upper) ? DUMMY_PULL : 1, lower = is_dummy(chart, s->lower) ? DUMMY_PULL : 1;
-    sum[s->edge].sum += (long long)upper * x[s->upper] + (long long)lower * x[s->lower];
-    sum[s->edge].weight += upper + lower;
+    sum[s->merged].sum += (long long)upper * x[s->upper] + (long long)lower * x[s->lower];
+    sum[s->merged].weight += upper + lower;
   }
-  for (unsigned i = 0; i < chart->edges; i++) lane[i] = floor_mean(&sum[i]);
+  for (unsigned i = 0; i < chart->merged_edges; i++) lane[i] = floor_mean(&sum[i]);
 }
 
 /* The places of the ends of a row's segments, as wishes. */
@@ -82,7 +82,7 @@ static void make_wishes(const Chart *chart, unsigned row, Sides sides, const lon
     unsigned point = chart->order[i];
     if (is_dummy(chart, point) && sides == FROM_BOTH) {
       forget(w, point);
-      wish(w, point, LANE_WEIGHT, lane[chart->point_edge[point]]);
+      wish(w, point, LANE_WEIGHT, lane[chart->point_merged[point]]);
     }
     if (w->weight[point] == 0) wish(w, point, 1, idle_place(chart, row, i, sides, packed, x));
   }

@@ -26,7 +26,19 @@ static void list_steps(FILE *out, const Chart *chart) {
   }
 }
 
-/* Of a soft edge the line says so, and whether it was turned. */
+/* What else there is to say of an edge: whether it is soft and was turned, and the edge that it is one line with, if that comes before. */
+static void list_remarks(FILE *out, const Chart *chart, unsigned edge) {
+  const char *mark = "  ";
+  unsigned first = chart->merged[chart->edge_merged[edge]].first;
+  if (chart->edge[edge].soft) {
+    fprintf(out, "%ssoft", mark);
+    mark = ", ";
+  }
+  if (chart->known >= ROWS && is_turned(chart, edge)) fprintf(out, "%sturned", mark);
+  if (first != edge) fprintf(out, "%sone line with %u", mark, first);
+  fprintf(out, "\n");
+}
+
 static void list_edges(FILE *out, const Chart *chart) {
   fprintf(out, "\nedge  from  to  gap  weight  length\n");
   for (unsigned i = 0; i < chart->edges; i++) {
@@ -35,8 +47,8 @@ static void list_edges(FILE *out, const Chart *chart) {
     if (chart->known < ROWS)
       fprintf(out, "     -");
     else
-      fprintf(out, "%6d", chart->row[lower_end(chart, i)] - chart->row[upper_end(chart, i)]);
-    fprintf(out, "%s%s\n", e->soft ? "  soft" : "", chart->known >= ROWS && is_turned(chart, i) ? ", turned" : "");
+      fprintf(out, "%6u", length_of(chart, i));
+    list_remarks(out, chart, i);
   }
 }
 

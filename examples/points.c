@@ -1,14 +1,26 @@
-/* Points and segments: steps, then the dummies of the edges, by edge and by rising row; and the place of each point in its row. */
+/* Points and segments: steps, then the dummies of the lines, by line and by rising row; and the place of each point in its row. */
 #include <string.h>
 
 #include "chart.h"
 
-/* Whether the edges read here are those that the library has: it turns no must edge, finds the same rows for the edges as they were kept
- * or turned, and counts as many points. */
+/* Whether the lines joined here are those that the library has: they keep their gaps, have its total, and make as many points. */
+static int lines_agree(const Chart *chart) {
+  unsigned long points = chart->steps, total = 0;
+  for (unsigned i = 0; i < chart->merged_edges; i++) {
+    const MergedEdge *m = &chart->merged[i];
+    unsigned length = length_of(chart, m->first);
+    if (length < m->gap) return 0;
+    points += length - 1;
+    total += m->weight * length;
+  }
+  return points == chart->points && total == chart->total;
+}
+
+/* Whether the edges read here are those that the library has: it turns no must edge, and finds the same rows for the edges as they were
+ * kept or turned. */
 static int edges_agree(const Chart *chart) {
   size_t record[4 * YUVATONDRO_MAX_EDGES];
   uint16_t row[YUVATONDRO_MAX_STEPS];
-  unsigned long points = chart->steps;
   for (unsigned i = 0; i < chart->edges; i++) {
     const Edge *e = &chart->edge[i];
     const size_t numbers[4] = {upper_end(chart, i), lower_end(chart, i), e->gap, e->weight};
@@ -16,25 +28,23 @@ static int edges_agree(const Chart *chart) {
     memcpy(record + 4 * i, numbers, sizeof numbers);
   }
   uint64_t answer = yuvatondro_records(chart->steps, record, 4 * chart->edges, row, YUVATONDRO_MAX_STEPS);
-  if (answer != YUVATONDRO_DONE || memcmp(row, chart->row, chart->steps * sizeof *row) != 0) return 0;
-  for (unsigned i = 0; i < chart->edges; i++) points += (unsigned long)(row[lower_end(chart, i)] - row[upper_end(chart, i)] - 1);
-  return points == chart->points;
+  return answer == YUVATONDRO_DONE && memcmp(row, chart->row, chart->steps * sizeof *row) == 0;
 }
 
-static void add_segment(Chart *chart, unsigned upper, unsigned lower, unsigned edge) {
-  chart->segment[chart->segments++] = (Segment){upper, lower, edge};
+static void add_segment(Chart *chart, unsigned upper, unsigned lower, unsigned merged) {
+  chart->segment[chart->segments++] = (Segment){upper, lower, merged};
 }
 
-/* The dummies of an edge, numbered from `point` on, and its segments, both from the top down. Gives the number behind the last dummy. */
-static unsigned lay_edge(Chart *chart, unsigned edge, unsigned point) {
-  unsigned upper = upper_end(chart, edge), last = lower_end(chart, edge);
+/* The dummies of a line, numbered from `point` on, and its segments, both from the top down. Gives the number behind the last dummy. */
+static unsigned lay_line(Chart *chart, unsigned merged, unsigned point) {
+  unsigned first = chart->merged[merged].first, upper = upper_end(chart, first), last = lower_end(chart, first);
   for (unsigned row = chart->row[upper] + 1u; row < chart->row[last]; row++) {
     chart->point_row[point] = row;
-    chart->point_edge[point] = edge;
-    add_segment(chart, upper, point, edge);
+    chart->point_merged[point] = merged;
+    add_segment(chart, upper, point, merged);
     upper = point++;
   }
-  add_segment(chart, upper, last, edge);
+  add_segment(chart, upper, last, merged);
   return point;
 }
 
@@ -59,11 +69,11 @@ static void list_segments(Chart *chart) {
 }
 
 int place_points(Chart *chart) {
-  if (!edges_agree(chart)) return 0;
+  if (!edges_agree(chart) || !lines_agree(chart)) return 0;
   chart->segments = 0;
   for (unsigned i = 0; i < chart->steps; i++) chart->point_row[i] = chart->row[i];
   unsigned point = chart->steps;
-  for (unsigned i = 0; i < chart->edges; i++) point = lay_edge(chart, i, point);
+  for (unsigned i = 0; i < chart->merged_edges; i++) point = lay_line(chart, i, point);
   cut_rows(chart);
   list_segments(chart);
   return 1;
