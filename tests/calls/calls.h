@@ -32,16 +32,23 @@ Table write_largest(int in_three);
 /* A number at the end of a table, in three bytes or in its fewest. */
 void put_number(Table *t, unsigned number, int in_three);
 
-/* Must edges, four numbers each as the record form takes them: up to one more than there may be. */
+/* Edges, four numbers each as the record form takes them, and which of them are soft, as only a table can say: up to one more than there
+ * may be. */
 typedef struct {
   size_t number[4 * (YUVATONDRO_MAX_EDGES + 1)];
   size_t count;
+  uint8_t soft[YUVATONDRO_MAX_EDGES + 1];
 } Edges;
 
 void add_edge(Edges *edges, size_t from, size_t to, size_t gap, size_t weight);
+void add_soft(Edges *edges, size_t from, size_t to, size_t gap, size_t weight);
+/* Of the lines that there may be between two steps one more from the first to the second, by its number: a must one, a soft one, and a soft
+ * one that is written the other way and turned, since it closes a loop with the must one. */
+enum { SIDE_BY_SIDE = 3 };
+void add_line(Edges *edges, size_t upper, size_t lower, size_t gap, size_t number);
 /* Edges of this gap and weight from each of so many steps to the next. */
 Edges make_chain(size_t steps, size_t gap, size_t weight);
-/* The table of edition 1 with these edges, whose steps are checks of one name. */
+/* The table of these edges, whose steps are checks of one name, in edition 1 if no edge is soft. */
 Table write_edges(size_t steps, const Edges *edges);
 
 #define SAMPLE                                                                                 \
@@ -91,5 +98,6 @@ void test_convert_call(void);
 void test_counts(void);
 void test_tall_charts(void);
 void test_means(void);
+void test_merged_edges(void);
 
 #endif

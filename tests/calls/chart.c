@@ -27,15 +27,17 @@ static void test_chart(void) {
   }
 }
 
-/* Adds edges of weight 0 from the first step of a chain of the largest gap, which have so many dummies together. One over k steps has
- * 4 * k - 1, so m edges over s steps in all have 4 * s - m. */
+/* Adds edges of weight 0 from the first step of a chain of the largest gap, which have so many dummies together. Each leads over more steps
+ * than the one before and the first over two, so that each is a line of its own. One over k steps has 4 * k - 1 dummies, so m edges over s
+ * steps in all have 4 * s - m. */
 static void add_dummies(Edges *chain, size_t dummies) {
-  size_t edges = (MAX_GAP - dummies % MAX_GAP) % MAX_GAP, length = chain->count;
-  while (edges * (MAX_GAP * length - 1) < dummies) edges += MAX_GAP;
-  for (size_t left = (dummies + edges) / MAX_GAP; edges > 0; edges--) {
-    size_t over = left - (edges - 1) < length ? left - (edges - 1) : length;
+  size_t edges = (MAX_GAP - dummies % MAX_GAP) % MAX_GAP, length = chain->count, over = 1;
+  while (edges * MAX_GAP * (length - edges) < dummies) edges += MAX_GAP;
+  for (size_t left = (dummies + edges) / MAX_GAP; edges > 0; left -= over) {
+    edges--;
+    size_t others = edges * length - edges * (edges - 1) / 2; /* the most steps that those behind it lead over */
+    over = left > others + over ? left - others : over + 1;
     add_edge(chain, 0, over, 1, 0);
-    left -= over;
   }
 }
 
@@ -79,21 +81,23 @@ static void test_too_many_points(void) {
   expect(call_records(YUVATONDRO_MAX_STEPS, edges.number, 4 * edges.count, YUVATONDRO_MAX_STEPS, rows) == 0, "points: nor for records");
 }
 
-/* The largest total of a chart. An edge is one longer than it has dummies, so with n steps and p points the lengths of m edges add up to
- * p - n + m; and none weighs more than 255. With two steps no edge is longer than 4, and 4 * m is less than what three allow. Three in rows
- * 0, 3 and 7 have the most points and edges: 2 edges of length 3, LONG of length 7, the others of length 4. */
-static void test_total(void) {
-  enum { LONG = (YUVATONDRO_MAX_POINTS - 1) / 3 - YUVATONDRO_MAX_EDGES, LENGTHS = YUVATONDRO_MAX_POINTS - 3 + YUVATONDRO_MAX_EDGES };
+/* As many lines as there may be, with as many points: STEPS steps in a row each, and from each of them three lines to each of the FAR that
+ * follow, the longest first; of the last, between neighbours, some are left out. A line is one longer than it has dummies, so that the
+ * lengths of m lines add up to points - steps + m. */
+static void test_most_lines(void) {
+  enum { STEPS = 16, FAR = 9, LENGTHS = YUVATONDRO_MAX_POINTS - STEPS + YUVATONDRO_MAX_EDGES };
   uint16_t rows[ROWS], order[POINTS];
-  static const uint16_t due[3] = {0, 3, 7};
-  Edges edges = {{0}, 0};
-  for (size_t i = 0; i < YUVATONDRO_MAX_EDGES; i++)
-    add_edge(&edges, i < 2 || i >= YUVATONDRO_MAX_EDGES - LONG ? 0 : 1, i < 2 ? 1 : 2, i < 2 ? 3 : MAX_GAP, MAX_WEIGHT);
-  Table t = write_edges(3, &edges);
-  uint64_t answer = call_chart(&t, 3, YUVATONDRO_MAX_POINTS, rows, order);
-  expect(yuvatondro_refusal(answer) == 0 && same_entries(rows, due, 3), "total: rows");
-  expect(yuvatondro_points(answer) == YUVATONDRO_MAX_POINTS, "total: points");
-  expect(yuvatondro_total(answer) == (unsigned long)LENGTHS * MAX_WEIGHT, "total: the largest");
+  Edges edges = {{0}, 0, {0}};
+  for (size_t number = 0; number < SIDE_BY_SIDE; number++)
+    for (size_t over = FAR; over > 0; over--)
+      for (size_t i = 0; i + over < STEPS && edges.count < YUVATONDRO_MAX_EDGES; i++) add_line(&edges, i, i + over, 1, number);
+  Table t = write_edges(STEPS, &edges);
+  uint64_t answer = call_chart(&t, STEPS, YUVATONDRO_MAX_POINTS, rows, order);
+  expect(yuvatondro_refusal(answer) == 0 && edges.count == YUVATONDRO_MAX_EDGES, "lines: as many as there may be");
+  for (size_t i = 0; i < STEPS; i++) expect(rows[i] == i, "lines: a row");
+  expect(yuvatondro_points(answer) == YUVATONDRO_MAX_POINTS && yuvatondro_total(answer) == LENGTHS, "lines: points and total");
+  expect_each_once(order, YUVATONDRO_MAX_POINTS);
+  expect(call_chart(&t, STEPS, YUVATONDRO_MAX_POINTS - 1, rows, order) == 13, "lines: order one short");
 }
 
 /* Every step of one row before every step of the next, by as many edges as there may be: each two of the one and each two of the other
@@ -101,7 +105,7 @@ static void test_total(void) {
 static void test_crossings(void) {
   enum { UPPER = 16, LOWER = YUVATONDRO_MAX_EDGES / UPPER, PAIRS = UPPER * (UPPER - 1) / 2 * (LOWER * (LOWER - 1) / 2) };
   uint16_t rows[ROWS], order[POINTS];
-  Edges edges = {{0}, 0};
+  Edges edges = {{0}, 0, {0}};
   for (size_t i = 0; i < UPPER * LOWER; i++) add_edge(&edges, i / LOWER, UPPER + i % LOWER, 1, MAX_WEIGHT);
   Table t = write_edges(UPPER + LOWER, &edges);
   uint64_t answer = call_chart(&t, ROWS, POINTS, rows, order);
@@ -115,6 +119,6 @@ void test_chart_call(void) {
   test_points(YUVATONDRO_MAX_POINTS - 1);
   test_points(YUVATONDRO_MAX_POINTS);
   test_too_many_points();
-  test_total();
+  test_most_lines();
   test_crossings();
 }

@@ -33,7 +33,7 @@ static void expect_taken(size_t steps, const Edges *edges) {
 
 /* Steps without edges, of every number that there may be; and one more. */
 static void test_steps(void) {
-  const Edges none = {{0}, 0};
+  const Edges none = {{0}, 0, {0}};
   uint16_t rows[ROWS];
   size_t steps = 0;
   for (; steps <= YUVATONDRO_MAX_STEPS; steps++) expect_taken(steps, &none);
@@ -42,9 +42,10 @@ static void test_steps(void) {
   expect(call_records(steps, NULL, 0, 0, rows) == 4 && call_records(steps, NULL, 0, ROWS, rows) == 4, "records: one step too many");
 }
 
-/* Edges between two steps, of every number that there may be; and one more. */
+/* Edges between two steps, of every number that there may be; and one more. They are counted one by one, though they are drawn as one
+ * line. */
 static void test_edges(void) {
-  Edges edges = {{0}, 0};
+  Edges edges = {{0}, 0, {0}};
   uint16_t rows[ROWS];
   for (; edges.count <= YUVATONDRO_MAX_EDGES; add_edge(&edges, 0, 1, 1, 1)) expect_taken(2, &edges);
   Table t = write_edges(2, &edges);

@@ -26,6 +26,7 @@ int main(void) {
   test_counts();
   test_tall_charts();
   test_means();
+  test_merged_edges();
   printf("host: %d checks, each as expected\n", checks);
   return 0;
 }

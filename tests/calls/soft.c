@@ -1,4 +1,4 @@
-/* Soft edges, kept and turned, in every call that gives rows; and the longest table, most of whose edges are turned. */
+/* Soft edges, kept and turned, in every call that gives rows; and the longest table, whose soft edges decide the rows. */
 #include "calls.h"
 
 /* Level and flat, which upset each other, below lock: of the soft edges between them the second is turned, and its gap puts three rows
@@ -35,9 +35,11 @@ static void test_soft(void) {
   expect(yuvatondro_name(t.byte, t.len, 2) == 15, "soft: a bad firmness before a step that is not there");
 }
 
-/* Each edge has the largest gap as it was turned, or lies beside one that has, so that all are as long. */
+/* The edges along a link have the largest gap, or lie beside one that has, so that all are as long; the others are twice as long. Each is a
+ * line of its own. */
 static void test_longest(void) {
-  enum { STEPS = YUVATONDRO_MAX_STEPS, EDGES = YUVATONDRO_MAX_EDGES, ALL = STEPS + EDGES * (MAX_GAP - 1) };
+  enum { STEPS = YUVATONDRO_MAX_STEPS, EDGES = YUVATONDRO_MAX_EDGES, TWICE = EDGES - 3 * (STEPS - 1) };
+  enum { LENGTHS = (EDGES + TWICE) * MAX_GAP, ALL = STEPS + LENGTHS - EDGES };
   uint16_t rows[ROWS], order[POINTS];
   Table t = write_largest(0);
   expect(t.len == YUVATONDRO_MAX_SHORTEST, "longest: its length");
@@ -47,7 +49,7 @@ static void test_longest(void) {
   expect(yuvatondro_name_length(answer) == 16 && yuvatondro_name_start(answer) == 2 + (STEPS - 1) * 20 + 4, "longest: the last name");
   answer = call_chart(&t, STEPS, ALL, rows, order);
   expect(yuvatondro_refusal(answer) == 0 && yuvatondro_points(answer) == ALL, "longest: points");
-  expect(yuvatondro_total(answer) == EDGES * MAX_WEIGHT * MAX_GAP && yuvatondro_crossings(answer) == 0, "longest: total and crossings");
+  expect(yuvatondro_total(answer) == LENGTHS * MAX_WEIGHT && yuvatondro_crossings(answer) == 0, "longest: total and crossings");
   for (unsigned i = 0; i < STEPS; i++) expect(rows[i] == MAX_GAP * i, "longest: a row of the chart");
   expect(call_rows(&t, STEPS, rows) == 0 && rows[STEPS - 1] == YUVATONDRO_MAX_ROW, "longest: rows");
   t.byte[t.len++] = 0;

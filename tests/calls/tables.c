@@ -112,8 +112,9 @@ void put_number(Table *t, unsigned number, int in_three) {
   t->byte[t->len++] = (uint8_t)number;
 }
 
-/* A chain of steps with gap 1, and for the rest soft edges back along it with the largest gap: each of these is turned, and each link of
- * the chain has some, so that they decide the rows. */
+/* A chain of steps with gap 1; along each link of it a soft edge back and a soft edge on, with the largest gap; and for the rest soft edges
+ * back over two links. Those that lead back are turned, and decide the rows together with those that lead on. No two have the same ends
+ * and firmness. */
 Table write_largest(int in_three) {
   enum { CHAIN = YUVATONDRO_MAX_STEPS - 1, TOLERANCE = 9999, NAME = 16 };
   Table t = {{0}, 0};
@@ -127,8 +128,8 @@ Table write_largest(int in_three) {
   }
   put_number(&t, YUVATONDRO_MAX_EDGES, in_three);
   for (unsigned i = 0; i < YUVATONDRO_MAX_EDGES; i++) {
-    unsigned low = i % CHAIN, soft = i >= CHAIN;
-    const unsigned edge[5] = {low + soft, low + 1 - soft, soft ? MAX_GAP : 1, MAX_WEIGHT, soft};
+    unsigned turn = i / CHAIN, over = turn == 3 ? 2 : 1, low = i % CHAIN * over, back = turn % 2 * over;
+    const unsigned edge[5] = {low + back, low + over - back, turn > 0 ? MAX_GAP : 1, MAX_WEIGHT, turn > 0};
     for (unsigned k = 0; k < 5; k++) put_number(&t, edge[k], in_three);
   }
   return t;
@@ -139,18 +140,35 @@ void add_edge(Edges *edges, size_t from, size_t to, size_t gap, size_t weight) {
   memcpy(edges->number + 4 * edges->count++, numbers, sizeof numbers);
 }
 
+void add_soft(Edges *edges, size_t from, size_t to, size_t gap, size_t weight) {
+  edges->soft[edges->count] = 1;
+  add_edge(edges, from, to, gap, weight);
+}
+
+void add_line(Edges *edges, size_t upper, size_t lower, size_t gap, size_t number) {
+  if (number == 0)
+    add_edge(edges, upper, lower, gap, 1);
+  else if (number == 1)
+    add_soft(edges, upper, lower, gap, 1);
+  else
+    add_soft(edges, lower, upper, gap, 1);
+}
+
 Edges make_chain(size_t steps, size_t gap, size_t weight) {
-  Edges edges = {{0}, 0};
+  Edges edges = {{0}, 0, {0}};
   for (size_t i = 1; i < steps; i++) add_edge(&edges, i - 1, i, gap, weight);
   return edges;
 }
 
 Table write_edges(size_t steps, const Edges *edges) {
   static const uint8_t check[3] = {0, 1, 'a'};
-  Table t = {{1}, 1};
+  Table t = {{memchr(edges->soft, 1, edges->count) == NULL ? 1 : 2}, 1};
   put_number(&t, (unsigned)steps, 0);
   for (size_t i = 0; i < steps; i++, t.len += sizeof check) memcpy(t.byte + t.len, check, sizeof check);
   put_number(&t, (unsigned)edges->count, 0);
-  for (size_t i = 0; i < 4 * edges->count; i++) put_number(&t, (unsigned)edges->number[i], 0);
+  for (size_t i = 0; i < 4 * edges->count; i++) {
+    put_number(&t, (unsigned)edges->number[i], 0);
+    if (i % 4 == 3 && t.byte[0] == 2) put_number(&t, edges->soft[i / 4], 0);
+  }
   return t;
 }

@@ -39,7 +39,7 @@ static void test_chains(void) {
 
 /* The other way round: the first entry is the largest row. */
 static void test_rising(void) {
-  Edges edges = {{0}, 0};
+  Edges edges = {{0}, 0, {0}};
   uint16_t due[YUVATONDRO_MAX_STEPS] = {YUVATONDRO_MAX_ROW};
   for (size_t i = 1; i < YUVATONDRO_MAX_STEPS; i++) {
     add_edge(&edges, i, i - 1, MAX_GAP, MAX_WEIGHT);
@@ -62,9 +62,10 @@ static void test_kept_bytes(void) {
   expect(call_rows(&t, STEPS_IN_BYTES + 1, rows) == 0 && rows[STEPS_IN_BYTES] == UINT8_MAX + 1, "bytes: one step more");
 }
 
-/* The largest total that rows can have: it takes k edges of length 4 to reach row 4 * k, and no other edge is longer than that. No call
- * tells it, since such a chart has too many points. */
+/* The largest total that rows can have: it takes k edges of length 4 to reach row 4 * k, and no other edge is longer than that. Those
+ * beside the chain are one line, with a dummy in each row between its ends, so that the chart has few points and tells the total. */
 static void test_heaviest(void) {
+  enum { CHAIN = YUVATONDRO_MAX_STEPS - 1, BESIDE = YUVATONDRO_MAX_EDGES - CHAIN };
   uint16_t rows[ROWS], order[POINTS];
   Edges edges = make_chain(YUVATONDRO_MAX_STEPS, MAX_GAP, MAX_WEIGHT);
   while (edges.count < YUVATONDRO_MAX_EDGES) add_edge(&edges, 0, YUVATONDRO_MAX_STEPS - 1, 1, MAX_WEIGHT);
@@ -73,7 +74,10 @@ static void test_heaviest(void) {
   for (size_t i = 0; i < YUVATONDRO_MAX_STEPS; i++) expect(rows[i] == MAX_GAP * i, "heaviest: a row");
   expect(call_records(YUVATONDRO_MAX_STEPS, edges.number, 4 * edges.count, YUVATONDRO_MAX_STEPS, rows) == 0, "heaviest: records");
   for (size_t i = 0; i < YUVATONDRO_MAX_STEPS; i++) expect(rows[i] == MAX_GAP * i, "heaviest: a row of records");
-  expect(call_chart(&t, YUVATONDRO_MAX_STEPS, POINTS, rows, order) == 12, "heaviest: its chart has too many points");
+  uint64_t answer = call_chart(&t, YUVATONDRO_MAX_STEPS, POINTS, rows, order);
+  expect(yuvatondro_refusal(answer) == 0 && yuvatondro_points(answer) == 2 * YUVATONDRO_MAX_ROW, "heaviest: points");
+  expect(yuvatondro_total(answer) == (1ul + BESIDE) * YUVATONDRO_MAX_ROW * MAX_WEIGHT, "heaviest: the total");
+  expect(yuvatondro_crossings(answer) == 0, "heaviest: crossings");
 }
 
 void test_tall_charts(void) {
