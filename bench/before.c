@@ -1,28 +1,25 @@
 // Times this build of the library against an earlier one, on tables of edition 1, which both read.
 //   before FILE..        the shapes of shapes.c, charts with the widest rows, and the stored instances FILE..
-//   before once          rows and charts of the largest shapes once and untimed; prints how many tables each had, and their size
+//   before once WHAT     rows, charts or repeated: such calls on the largest shapes once and untimed; prints how many tables there were,
+//                        and their size
 //
 // bench/before links both libraries, each with the adapters rows_call.c and chart_call.c, and gives the two names of their own. Where the
 // earlier one has the calls that write tables, WRITES is defined and write_call.c is linked too.
 //
-// An earlier build may take smaller tables only, and up to version 1.3 it hands out rows as bytes. Both are found out by trial: what it
-// refuses for its size is left out, and bytes become entries of 16 bits before two answers are compared, behind the clock. Both builds are
-// lent the same buffer and told the same number of entries; of 16 bits each, it has room for as many bytes.
+// earlier.c finds out what the earlier build is. Tables that it refuses for their size are left out. Where its rows are bytes they become
+// entries of 16 bits before two answers are compared, behind the clock. Both builds are lent the same buffer and told the same number of
+// entries; of 16 bits each, it has room for as many bytes.
+//
+// Charts are measured without repeated edges, and with every edge as often as a size has edges a node. Where the earlier build draws each
+// of these by itself, points, order and crossings are meant to differ, and only rows and total are compared. Charts are cut to what the
+// earlier build accepts, which this one then does too.
+#include "builds.h"
+#include "earlier.h"
+#include "merged.h"
 #include "pairs.h"
 #include "sizes.h"
 #include <stdio.h>
 #include <string.h>
-
-unsigned before_call_rows(const uint8_t *table, size_t length, uint16_t *rows, size_t nodes);
-unsigned before_call_records(size_t nodes, const size_t *numbers, size_t count, uint16_t *rows);
-size_t before_call_name(const uint8_t *table, size_t length, size_t step);
-void before_call_chart(const uint8_t *table, size_t length, ChartAnswer *answer);
-unsigned now_call_rows(const uint8_t *table, size_t length, uint16_t *rows, size_t nodes);
-unsigned now_call_records(size_t nodes, const size_t *numbers, size_t count, uint16_t *rows);
-size_t now_call_name(const uint8_t *table, size_t length, size_t step);
-void now_call_chart(const uint8_t *table, size_t length, ChartAnswer *answer);
-size_t now_write_table(const Instance *inst, uint8_t *table);
-void now_cut_to_accepted(Instance *inst);
 
 static void rows_before(const uint8_t *table, size_t length, ChartAnswer *answer) {
   answer->refusal = before_call_rows(table, length, answer->rows, YUVATONDRO_MAX_STEPS);
@@ -70,14 +67,6 @@ static void name_now(const uint8_t *table, size_t length, ChartAnswer *answer) {
 }
 
 #ifdef WRITES
-size_t now_write_form(const Instance *inst, Form form, uint8_t *table);
-unsigned before_call_counts(const uint8_t *table, size_t length);
-unsigned now_call_counts(const uint8_t *table, size_t length);
-size_t before_call_write(const uint8_t *table, size_t length, uint8_t *out);
-size_t now_call_write(const uint8_t *table, size_t length, uint8_t *out);
-size_t before_call_convert(const uint8_t *table, size_t length, uint8_t *out);
-size_t now_call_convert(const uint8_t *table, size_t length, uint8_t *out);
-
 static uint8_t out[YUVATONDRO_MAX_STORED];
 
 static void read_before(const uint8_t *table, size_t length, ChartAnswer *answer) { answer->refusal = before_call_counts(table, length); }
@@ -96,45 +85,67 @@ static void convert_before(const uint8_t *table, size_t length, ChartAnswer *ans
 static void convert_now(const uint8_t *table, size_t length, ChartAnswer *answer) { keep_written(now_call_convert(table, length, out), answer); }
 #endif
 
-// ---- what the earlier build takes and hands out ----
+// ---- what is measured of the shapes, at each size ----
 
-// Its rows of a table of so many nodes, with so many edges from the first of them to the second.
-static unsigned try_earlier(size_t nodes, size_t edges, ChartAnswer *answer) {
-  static Instance inst;
-  static uint8_t table[YUVATONDRO_MAX_STORED];
-  inst.nodes = nodes;
-  inst.edges = edges;
-  for (size_t i = 0; i < edges; i++) inst.edge[i] = (Edge){ .from = 0, .to = 1, .gap = 1, .weight = 1 };
-  memset(answer, 255, sizeof *answer);
-  rows_before(table, now_write_table(&inst, table), answer);
-  return answer->refusal;
+static void make_plain(Instance *inst, size_t shape, size_t nodes, uint64_t seed) {
+  make_shape(inst, shape, nodes, nodes * EDGES_A_NODE, seed);
 }
-static int earlier_takes(size_t nodes, size_t edges) {
-  static ChartAnswer answer;
-  return try_earlier(nodes, edges, &answer) == 0;
+static void make_unrepeated(Instance *inst, size_t shape, size_t nodes, uint64_t seed) {
+  make_plain(inst, shape, nodes, seed);
+  drop_repeats(inst);
+  before_cut_to_accepted(inst);
 }
-static int count_sizes(void) {
-  int k = 0;
-  while (k < SIZES && earlier_takes(node_counts[k], node_counts[k] * EDGES_A_NODE)) k++;
-  return k;
+// About as many edges, but an edge a node, each written as often as there are edges a node else.
+static void make_repeated(Instance *inst, size_t shape, size_t nodes, uint64_t seed) {
+  make_shape(inst, shape, nodes, nodes, seed);
+  drop_repeats(inst);
+  repeat_edges(inst, EDGES_A_NODE);
+  before_cut_to_accepted(inst);
 }
-// The rows of two nodes are one entry where they are bytes, and the next keeps its content.
-static int earlier_gives_bytes(void) {
-  static ChartAnswer answer;
-  return try_earlier(2, 1, &answer) == 0 && answer.rows[1] == UINT16_MAX;
+
+typedef struct {
+  const char *name, *title;  // the name is for `once`
+  Call before, now;
+  void (*make)(Instance *inst, size_t shape, size_t nodes, uint64_t seed);
+  int width;  // the least number of bytes for a number
+} Group;
+
+static const Group groups[] = {
+  { "rows", "Rows", rows_before, rows_now, make_plain, 1 },
+  { "charts", "Charts, no edge repeated", before_call_chart, now_call_chart, make_unrepeated, 1 },
+  { "repeated", "Charts, edges repeated", before_call_chart, now_call_chart, make_repeated, 1 },
+  { "", "Records", records_before, records_now, make_plain, 1 },
+  { "", "Names", name_before, name_now, make_plain, 1 },
+#ifdef WRITES
+  { "", "Reading", read_before, read_now, make_plain, 1 },
+  { "", "Writing", write_before, write_now, make_plain, 1 },
+  { "", "Converting", convert_before, convert_now, make_plain, 3 },
+#endif
+};
+enum { GROUPS = sizeof groups / sizeof *groups };
+
+typedef struct { Pairs pairs; char title[MAX_NAME]; size_t edges, lines; } Measured;  // edges and lines of all tables
+static Measured measured[GROUPS][SIZES];
+static Pairs searched, wide;
+
+// ---- answers, behind the clock ----
+
+static int gives_bytes, merges;  // the earlier build: earlier.h
+
+static void tidy_rows(ChartAnswer *answer) {
+  if (gives_bytes) widen_rows(answer);
 }
-// The same rows in entries of 16 bits. What no call wrote is all ones in either width, and no row that fits a byte is: those of the tables
-// that such a build takes are below it.
-static void widen_rows(ChartAnswer *answer) {
-  uint8_t bytes[YUVATONDRO_MAX_STEPS];
-  memcpy(bytes, answer->rows, sizeof bytes);
-  for (size_t v = 0; v < YUVATONDRO_MAX_STEPS; v++) answer->rows[v] = bytes[v] == UINT8_MAX ? UINT16_MAX : bytes[v];
+// Keeps of a chart what does not hang on whether repeated edges are one line: rows and total.
+static void keep_rows(ChartAnswer *answer) {
+  answer->points = answer->crossings = 0;
+  memset(answer->order, 0, sizeof answer->order);
+}
+static void tidy_unmerged(ChartAnswer *answer) {
+  tidy_rows(answer);
+  keep_rows(answer);
 }
 
 // ---- tables ----
-
-static Pairs rows[SIZES], charts[SIZES], records[SIZES], names[SIZES], searched, wide;
-static char titles[4][SIZES][MAX_NAME];
 
 static void open_pairs(Pairs *p, const char *title, Call before, Call now) {
   p->title = title;
@@ -142,70 +153,30 @@ static void open_pairs(Pairs *p, const char *title, Call before, Call now) {
   p->way[1] = "now";
   p->call[0] = before;
   p->call[1] = now;
-  p->tidy[0] = earlier_gives_bytes() ? widen_rows : NULL;
+  p->tidy[0] = tidy_rows;
 }
-static void add_pair(Pairs *p, const Instance *inst) {
+static void open_group(Measured *m, const Group *group, size_t nodes) {
+  snprintf(m->title, MAX_NAME, "%s, %zu/%zu", group->title, nodes, nodes * EDGES_A_NODE);
+  open_pairs(&m->pairs, m->title, group->before, group->now);
+  if (group->now == records_now) m->pairs.ready = read_edges;
+  if (group->make != make_repeated || merges) return;
+  m->pairs.tidy[0] = tidy_unmerged;
+  m->pairs.tidy[1] = keep_rows;
+}
+static void add_pair(Pairs *p, const Instance *inst, int width) {
   Pair *pair = next_pair(p, inst->name);
-  for (int way = 0; way < 2; way++) pair->length[way] = now_write_table(inst, pair->table[way]);
+  for (int way = 0; way < 2; way++) pair->length[way] = now_write_form(inst, (Form){ 1, MUST, 0, width }, pair->table[way]);
 }
-#ifdef WRITES
-enum { READING, WRITING, CONVERTING, WRITERS, LONG_FORM = 3 };
-static Pairs writers[WRITERS][SIZES];
-
-static void open_writers(int k) {
-  static const struct { const char *name; Call before, now; } calls[WRITERS] = {
-    { "Reading", read_before, read_now }, { "Writing", write_before, write_now }, { "Converting", convert_before, convert_now },
-  };
-  static char writer_titles[WRITERS][SIZES][MAX_NAME];
-  for (int w = 0; w < WRITERS; w++) {
-    snprintf(writer_titles[w][k], MAX_NAME, "%s %zu/%zu", calls[w].name, node_counts[k], node_counts[k] * EDGES_A_NODE);
-    open_pairs(&writers[w][k], writer_titles[w][k], calls[w].before, calls[w].now);
-  }
-}
-// Converted is the same table with each number in three bytes.
-static void add_writers(int k, const Instance *inst) {
-  add_pair(&writers[READING][k], inst);
-  add_pair(&writers[WRITING][k], inst);
-  Pair *pair = next_pair(&writers[CONVERTING][k], inst->name);
-  for (int way = 0; way < 2; way++) pair->length[way] = now_write_form(inst, (Form){ 1, MUST, 0, LONG_FORM }, pair->table[way]);
-}
-static void run_writers(int count) {
-  for (int w = 0; w < WRITERS; w++)
-    for (int k = 0; k < count; k++) run_pairs(&writers[w][k]);
-}
-static void print_writers(int count) {
-  for (int w = 0; w < WRITERS; w++)
-    for (int k = 0; k < count; k++) print_means(&writers[w][k]);
-}
-#else
-static void open_writers(int k) { (void)k; }
-static void add_writers(int k, const Instance *inst) { (void)k, (void)inst; }
-static void run_writers(int count) { (void)count; }
-static void print_writers(int count) { (void)count; }
-#endif
-
-static void make_size(int k) {
-  static Instance inst;
-  size_t nodes = node_counts[k], edges = nodes * EDGES_A_NODE;
-  snprintf(titles[0][k], MAX_NAME, "Rows %zu/%zu", nodes, edges);
-  snprintf(titles[1][k], MAX_NAME, "Charts %zu/%zu", nodes, edges);
-  snprintf(titles[2][k], MAX_NAME, "Records %zu/%zu", nodes, edges);
-  snprintf(titles[3][k], MAX_NAME, "Names %zu/%zu", nodes, edges);
-  open_pairs(&rows[k], titles[0][k], rows_before, rows_now);
-  open_pairs(&charts[k], titles[1][k], before_call_chart, now_call_chart);
-  open_pairs(&records[k], titles[2][k], records_before, records_now);
-  records[k].ready = read_edges;
-  open_pairs(&names[k], titles[3][k], name_before, name_now);
-  open_writers(k);
+static void make_group(Measured *m, const Group *group, size_t nodes) {
+  static Instance inst, merged;
+  open_group(m, group, nodes);
   for (size_t shape = 0; shape < shape_count(); shape++)
     for (int seed = 1; seed <= SEEDS; seed++) {
-      make_shape(&inst, shape, nodes, edges, seed);
-      add_pair(&rows[k], &inst);
-      add_pair(&records[k], &inst);
-      add_pair(&names[k], &inst);
-      add_writers(k, &inst);
-      now_cut_to_accepted(&inst);
-      add_pair(&charts[k], &inst);
+      group->make(&inst, shape, nodes, seed);
+      add_pair(&m->pairs, &inst, group->width);
+      merge_edges(&inst, &merged);
+      m->edges += inst.edges;
+      m->lines += merged.edges;
     }
 }
 // 0 where a file is no instance.
@@ -214,55 +185,70 @@ static int read_stored(int files, char **paths) {
   open_pairs(&searched, "Rows, searched", rows_before, rows_now);
   for (int k = 0; k < files; k++) {
     if (!read_instance(&inst, paths[k])) return 0;
-    if (earlier_takes(inst.nodes, inst.edges)) add_pair(&searched, &inst);
+    if (earlier_takes(inst.nodes, inst.edges)) add_pair(&searched, &inst, 1);
   }
   return 1;
 }
-
-// Charts with the widest row, between hubs that have many ends in it; a single hub has all.
+// Charts with the widest row, for an earlier build that takes so many edges.
 static void make_wides(void) {
-  static const size_t hub_counts[] = { 1, 2, 4, 8, 16, 32, YUVATONDRO_MAX_STEPS / 2 };
+  static const struct { size_t upper, lower; } nodes[] = { { 4, 72 }, { 72, 4 }, { 8, 36 }, { 17, 17 }, { 24, 24 }, { 32, 32 }, { 48, 48 } };
   static Instance inst;
   open_pairs(&wide, "Charts, widest rows", before_call_chart, now_call_chart);
-  for (size_t k = 0; k < sizeof hub_counts / sizeof *hub_counts; k++)
+  for (size_t k = 0; k < sizeof nodes / sizeof *nodes; k++)
     for (int seed = 1; seed <= SEEDS; seed++) {
-      make_wide(&inst, hub_counts[k], seed);
-      if (earlier_takes(inst.nodes, inst.edges)) add_pair(&wide, &inst);
+      make_wide(&inst, nodes[k].upper, nodes[k].lower, seed);
+      if (earlier_takes(inst.nodes, inst.edges)) add_pair(&wide, &inst, 1);
     }
 }
 
-static void run_once(int last) {
-  run_pairs_once(&rows[last]);
-  run_pairs_once(&charts[last]);
-  printf("%zu %zu/%zu\n", rows[last].count, node_counts[last], node_counts[last] * EDGES_A_NODE);
+// ---- runs ----
+
+static int count_sizes(void) {
+  int k = 0;
+  while (k < SIZES && earlier_takes(node_counts[k], node_counts[k] * EDGES_A_NODE)) k++;
+  return k;
+}
+// Status 2 where there is no such group.
+static int run_once(const char *what, size_t nodes) {
+  for (int g = 0; g < GROUPS; g++) {
+    if (strcmp(groups[g].name, what) != 0) continue;
+    make_group(&measured[g][0], &groups[g], nodes);
+    run_pairs_once(&measured[g][0].pairs);
+    printf("%zu %zu/%zu\n", measured[g][0].pairs.count, nodes, nodes * EDGES_A_NODE);
+    return 0;
+  }
+  return 2;
+}
+static void print_group(const Measured *m) {
+  print_means(&m->pairs);
+  if (m->pairs.call[1] != now_call_chart) return;
+  printf("  edges in the mean %.1f, lines %.1f\n", (double)m->edges / m->pairs.count, (double)m->lines / m->pairs.count);
 }
 static void run_all(int count) {
-  printf("The earlier build hands out rows as %s and takes tables of up to %zu steps of those measured here.\n",
-         earlier_gives_bytes() ? "bytes" : "numbers of 16 bits", node_counts[count - 1]);
-  for (int k = 0; k < count; k++) run_pairs(&rows[k]);
+  printf("The earlier build hands out rows as %s, draws repeated edges %s and takes tables of up to %zu steps of those measured here.\n",
+         gives_bytes ? "bytes" : "numbers of 16 bits", merges ? "as one line" : "one by one", node_counts[count - 1]);
+  for (int g = 0; g < GROUPS; g++)
+    for (int k = 0; k < count; k++) {
+      make_group(&measured[g][k], &groups[g], node_counts[k]);
+      run_pairs(&measured[g][k].pairs);
+    }
   if (searched.count > 0) run_pairs(&searched);
-  for (int k = 0; k < count; k++) run_pairs(&charts[k]);
   if (wide.count > 0) run_pairs(&wide);
-  for (int k = 0; k < count; k++) run_pairs(&records[k]);
-  for (int k = 0; k < count; k++) run_pairs(&names[k]);
-  run_writers(count);
-  for (int k = 0; k < count; k++) print_means(&rows[k]);
+  for (int g = 0; g < GROUPS; g++)
+    for (int k = 0; k < count; k++) print_group(&measured[g][k]);
   if (searched.count > 0) print_means(&searched);
-  for (int k = 0; k < count; k++) print_means(&charts[k]);
   if (wide.count > 0) print_means(&wide);
-  for (int k = 0; k < count; k++) print_means(&records[k]);
-  for (int k = 0; k < count; k++) print_means(&names[k]);
-  print_writers(count);
-  printf("Both builds gave the same answer in every round.\n");
+  printf("Both builds gave the same answer in every round%s.\n", merges ? "" : ", where edges are repeated the same rows and total");
 }
 
 int main(int argc, char **argv) {
-  int once = argc > 1 && strcmp(argv[1], "once") == 0, files = argc - 1 - once, count = count_sizes();
-  if (count == 0 || files > MAX_PAIRS || shape_count() * SEEDS > MAX_PAIRS) return 2;
-  for (int k = 0; k < count; k++) make_size(k);
-  if (!read_stored(files, argv + 1 + once)) return 2;
+  int count = count_sizes();
+  if (count == 0 || argc - 1 > MAX_PAIRS || shape_count() * SEEDS > MAX_PAIRS) return 2;
+  gives_bytes = earlier_gives_bytes();
+  merges = earlier_merges();
+  if (argc == 3 && strcmp(argv[1], "once") == 0) return run_once(argv[2], node_counts[count - 1]);
+  if (!read_stored(argc - 1, argv + 1)) return 2;
   make_wides();
-  if (once) run_once(count - 1);
-  else run_all(count);
+  run_all(count);
   return 0;
 }

@@ -19,7 +19,7 @@ void cut_to_accepted(Instance *g) {
   }
 }
 
-// Points are the nodes, then the dummies by edge and rising row.
+// Points are the nodes, then the dummies by line and rising row.
 static long find_rows(const Instance *g, const ChartAnswer *a, int *row) {
   long points = g->nodes;
   for (size_t v = 0; v < g->nodes; v++) row[v] = a->rows[v];

@@ -17,6 +17,6 @@ void call_chart(const uint8_t *table, size_t length, ChartAnswer *answer);
 // Takes edges off the end until the chart has few enough points; then it has about as many as a chart may have.
 void cut_to_accepted(Instance *inst);
 
-// An accepted answer as a drawing; 0 where its order is no order of its points.
-int read_chart(const Instance *inst, const ChartAnswer *answer, Drawing *d);
+// An accepted answer as a drawing of the instance's lines (merged.h); 0 where its order is no order of its points.
+int read_chart(const Instance *merged, const ChartAnswer *answer, Drawing *d);
 #endif

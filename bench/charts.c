@@ -1,11 +1,13 @@
 // Times the chart call against graphviz's dot and checks every answer.
 //   charts FILE..   the shapes of shapes.c and the stored instances FILE..
 //
-// Timed: of ours the whole call, from the table's bytes to rows and order. Of dot gvLayout alone, as graphviz.c sets it up.
+// Timed: of ours the whole call, from the table's bytes to rows and order. Of dot gvLayout alone, as graphviz.c sets it up, on the table's
+// lines: what ours draws, so that dot is not charged for edges that ours merges first.
 // In turn: every program once on every table, round after round, the median kept.
 // Again: a second call right after the first on the same table, of ours and of dot's ranks and order alone.
 #include "chart_call.h"
 #include "graphviz.h"
+#include "merged.h"
 #include "rows_call.h"
 #include "sizes.h"
 #include <math.h>
@@ -16,7 +18,7 @@
 enum { ROUNDS = 5, MAX_CASES = 64 };
 
 typedef struct {
-  Instance inst;
+  Instance inst, merged;
   uint8_t table[YUVATONDRO_MAX_STORED];
   size_t length;
   ChartAnswer answer;
@@ -36,26 +38,30 @@ static void stop(const Case *c, const char *fault) {
   printf("%s: %s\n", c->inst.name, fault);
   exit(1);
 }
-static void prepare(Case *c) { c->length = write_table(&c->inst, c->table); }
+static void prepare(Case *c) {
+  c->length = write_table(&c->inst, c->table);
+  merge_edges(&c->inst, &c->merged);
+}
 
-// Our answer against its own order: rows feasible, order an order of the points, and points, total and crossings counted again.
+// Our answer against its own order: rows feasible, order an order of the points, and points, total and crossings counted again. Rows and
+// total are of the table's edges, points and crossings of its lines.
 static void check_ours(const Case *c) {
   static Drawing d;
   const ChartAnswer *a = &c->answer;
   if (a->refusal != 0) stop(c, "refused");
-  if (!read_chart(&c->inst, a, &d)) stop(c, "no order of its points");
+  if (!read_chart(&c->merged, a, &d)) stop(c, "no order of its points");
   if (!is_feasible(&c->inst, &d)) stop(c, "rows not feasible");
-  if (count_points(&c->inst, &d) != a->points) stop(c, "other points");
+  if (count_points(&c->merged, &d) != a->points) stop(c, "other points");
   if (count_total(&c->inst, &d) != a->total) stop(c, "other total");
-  if (count_crossings(&c->inst, &d) != a->crossings) stop(c, "other crossings");
+  if (count_crossings(&c->merged, &d) != a->crossings) stop(c, "other crossings");
 }
-// dot also ranks for the least total, and was given the same problem: its total cannot be less than ours. It may be more, since dot's
-// search does not always reach the least; print_not_least tells how often.
+// dot also ranks for the least total, and the lines have the totals of the edges: its total cannot be less than ours. It may be more, since
+// dot's search does not always reach the least; print_not_least tells how often.
 static void check_dot(Case *c, const Drawing *d) {
   if (!is_feasible(&c->inst, d)) stop(c, "dot's ranks not feasible");
   c->dot_total = count_total(&c->inst, d);
   if (c->dot_total < c->answer.total) stop(c, "dot has a smaller total");
-  c->dot_crossings = count_crossings(&c->inst, d);
+  c->dot_crossings = count_crossings(&c->merged, d);
 }
 static double run_ours(Case *c) {
   memset(&c->answer, 255, sizeof c->answer);  // so that each call must write its answer
@@ -73,7 +79,7 @@ static DotTimes run_dot(Case *c, int setting) {
   static Drawing d;
   DotTimes times;
   int read = setting == ORDER_ONLY;
-  if (!draw_by_dot(&c->inst, setting, &times, read ? &d : NULL)) stop(c, "dot failed");
+  if (!draw_by_dot(&c->merged, setting, &times, read ? &d : NULL)) stop(c, "dot failed");
   if (read) check_dot(c, &d);
   return times;
 }
@@ -106,8 +112,8 @@ static void add_ratio(Ratios *r, double ratio, const char *name) {
   }
 }
 static void print_case(const Case *c) {
-  printf("%-16s %5zu %5zu %6ld %6ld %6ld %8.1f", c->inst.name, c->inst.nodes, c->inst.edges, c->answer.points, c->answer.crossings,
-         c->dot_crossings, median(c->ours));
+  printf("%-16s %5zu %5zu %5zu %6ld %6ld %6ld %8.1f", c->inst.name, c->inst.nodes, c->inst.edges, c->merged.edges, c->answer.points,
+         c->answer.crossings, c->dot_crossings, median(c->ours));
   for (int s = 0; s < SETTINGS; s++) printf(" %9.0f %7.2f", median(c->dot[s]), median(c->dot[s]) / median(c->ours));
   printf(" %8.0f\n", median(c->apart));
 }
@@ -123,8 +129,8 @@ static void add_case(Ratios *ratios, const Case *c) {
 static void print_group(const char *title, const Group *g, Ratios *all) {
   Ratios group[SETTINGS] = { 0 };
   if (g->count == 0) return;
-  printf("\n%s\n%-16s %5s %5s %6s | crossings: ours, dot | ours | dot, dot / ours: ranks and order, no curves, as it comes | apart (us)\n",
-         title, "", "nodes", "edges", "points");
+  printf("\n%s\n%-16s %5s %5s %5s %6s | crossings: ours, dot | ours | dot, dot / ours: ranks and order, no curves, as it comes | apart (us)\n",
+         title, "", "nodes", "edges", "lines", "points");
   for (size_t i = 0; i < g->count; i++) {
     print_case(&g->cases[i]);
     add_case(group, &g->cases[i]);

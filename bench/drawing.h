@@ -1,4 +1,5 @@
-// A drawing as both programs give it: rows of the nodes, and where each edge stands in the rows that it meets.
+// A drawing as both programs give it: rows of the nodes, and where each edge stands in the rows that it meets. An edge is a line of the
+// table, but for what is asked of rows alone, which may as well be asked of the table's own edges.
 #ifndef DRAWING_H
 #define DRAWING_H
 #include "instance.h"

@@ -46,7 +46,7 @@ static void build(const Instance *g, int setting, Built *b) {
     set_number(b->edge[i], weight, e->weight);
   }
 }
-// dot leads an edge through dummies of its own; parallel edges may share them.
+// dot leads an edge through dummies of its own.
 static int read_edge(Agedge_t *edge, int length, int *place) {
   Agedge_t *piece = ED_to_virt(edge);
   place[0] = ND_order(agtail(edge));

@@ -20,9 +20,13 @@ typedef struct {
 size_t shape_count(void);
 void make_shape(Instance *inst, size_t shape, size_t nodes, size_t edges, uint64_t seed);
 
-// Not one of the shapes: as many edges as a table may have, two rows long, from some of so many hubs to some of as many others, so that
-// the row between them is as wide as a row can be. With one hub on each side it has as many ends there as a point can have.
-void make_wide(Instance *inst, size_t hubs, uint64_t seed);
+// Writes each edge of an instance so many times, each time with a gap and a weight of its own, in any order.
+void repeat_edges(Instance *inst, size_t times);
+
+// Not one of the shapes: as many edges as a table may have, two rows long, no two with the same ends, from nodes of one row to nodes of
+// another, so that the row between them is as wide as a row can be. The fewer nodes a row has, the more ends each has in the wide one.
+// There are no fewer pairs of such nodes than edges.
+void make_wide(Instance *inst, size_t upper, size_t lower, uint64_t seed);
 
 // A number below k, from the sequence that the last instance was made from.
 size_t random_below(size_t k);

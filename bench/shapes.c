@@ -142,11 +142,23 @@ void make_shape(Instance *g, size_t shape, size_t nodes, size_t edges, uint64_t 
   shuffle(g);
   snprintf(g->name, MAX_NAME, "%s %d", shapes[shape].name, (int)seed);
 }
-void make_wide(Instance *g, size_t hubs, uint64_t seed) {
-  state = seed * 1000003 + hubs;
-  g->nodes = 2 * hubs;
-  for (g->edges = 0; g->edges < YUVATONDRO_MAX_EDGES; g->edges++)
-    g->edge[g->edges] = (Edge){ .from = below(hubs), .to = hubs + below(hubs), .gap = 2, .weight = below(256) };
+void repeat_edges(Instance *g, size_t times) {
+  size_t once = g->edges;
+  for (size_t k = 1; k < times; k++)
+    for (size_t i = 0; i < once; i++)
+      g->edge[g->edges++] = (Edge){ g->edge[i].from, g->edge[i].to, between(1, 4), below(256) };
+  shuffle(g);
+}
+void make_wide(Instance *g, size_t upper, size_t lower, uint64_t seed) {
+  size_t pairs = upper * lower;  // of which each is as likely as any other to have an edge
+  state = seed * 1000003 + pairs * 7919 + upper;
+  g->nodes = upper + lower;
+  g->edges = 0;
+  for (size_t pair = 0; pair < pairs; pair++) {
+    if (below(pairs - pair) >= YUVATONDRO_MAX_EDGES - g->edges) continue;
+    g->edge[g->edges++] = (Edge){ .from = pair / lower, .to = upper + pair % lower, .gap = 2, .weight = below(256) };
+  }
   renumber(g);
-  snprintf(g->name, MAX_NAME, "%zu hubs %d", hubs, (int)seed);
+  shuffle(g);
+  snprintf(g->name, MAX_NAME, "%zu over %zu, %d", upper, lower, (int)seed);
 }
