@@ -10,11 +10,10 @@ use graph::TableEdge;
 use graph::direct;
 use table::limits::MAX_EDGES;
 ghost use mathlib.Core.Path.{_≡_};
-ghost use Prim.Native.Nat.{_≤_, _<_, max};
+ghost use Prim.Native.Nat.{_+_, _≤_, _<_, max};
 ghost use lib.ListN.{take, replicate};
-ghost use Rattle.graph.specs.Directed.{ownEdge, directed};
-ghost use Rattle.table.specs.Limits.{maxSteps, maxEdges};
-ghost use Rattle.table.specs.Fair.{FairEdge};
+ghost use Rattle.graph.specs.Directed.{directed};
+ghost use Rattle.table.specs.Limits.{maxEdges};
 ghost use Rattle.merging.specs.Merged.{noMergedEdge, mergedAlone, joined, asEdge};
 ghost use Rattle.merging.specs.Merging.{maxAdded, Mergeable, mergedArray};
 
@@ -105,7 +104,6 @@ fn start_edge(e: TableEdge, i: usize) -> MergedEdge
 // A merged edge with one edge more.
 fn join_edge(old: MergedEdge, e: TableEdge) -> MergedEdge
     requires { ⌜ old .weight ≤ maxAdded ⌝ }
-    requires { ⌜ FairEdge maxSteps (ownEdge e) ⌝ }
     ensures { λ r. ⌜ r ≡ joined e old ⌝ }
 {
     MergedEdge {
@@ -114,7 +112,7 @@ fn join_edge(old: MergedEdge, e: TableEdge) -> MergedEdge
         gap: wider_gap(old.gap, e.gap),
         soft: old.soft,
         first: old.first,
-        weight: old.weight + e.weight as u32,
+        weight: add_weight(old.weight, e.weight),
     }
 }
 
@@ -126,4 +124,12 @@ fn wider_gap(a: u8, b: u8) -> u8
         return b;
     }
     a
+}
+
+// Weights added, to those that were before.
+fn add_weight(old: u32, more: u8) -> u32
+    requires { ⌜ old ≤ maxAdded ⌝ }
+    ensures { λ r. ⌜ r ≡ old + more ⌝ }
+{
+    old + more as u32
 }

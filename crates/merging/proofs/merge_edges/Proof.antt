@@ -75,9 +75,7 @@ array-copy-out-old c = let b = place-here (c .before) in omega (arith, b)
 join-edge-requires : tie.Need-join-edge-requires Inv-loop μ-loop
 join-edge-requires c κs =
     let l = c .before .before .before .before .before .before in
-    let s = l .before .before .before in
-    let here = c .before .before .before .before .before .loop-test .taken in
-    (joined-light _ _ (s .pre) _ here _ _ _ (l .loop .inv .0) _ (c .before .if1 .taken), s .pre .each _ here)
+    joined-light _ _ (l .before .before .before .pre) _ (c .before .before .before .before .before .loop-test .taken) _ _ _ (l .loop .inv .0) _ (c .before .if1 .taken)
 
 mul-list : tie.Need-mul-list Inv-loop μ-loop
 mul-list c = let b = place-here (c .before .before .before) in omega (arith, b)
@@ -86,7 +84,9 @@ array-set-from-list : tie.Need-array-set-from-list Inv-loop μ-loop
 array-set-from-list c = let b = place-here (c .before .before .before) in omega (arith, b)
 
 start-edge-requires : tie.Need-start-edge-requires Inv-loop μ-loop
-start-edge-requires c κs = let s = c .before .before .before .before .before .before .before .before in omega (arith, s .pre .few)
+start-edge-requires c κs =
+    let s = c .before .before .before .before .before .before .before .before in
+    let b = room-here (c .before .before .before) in omega (arith, s .pre .few, b)
 
 mul-list-2 : tie.Need-mul-list-2 Inv-loop μ-loop
 mul-list-2 c = let b = room-here (c .before .before .before .before) in omega (arith, b)

@@ -29,7 +29,9 @@ cast-first : tie.Need-cast-first Inv-loop μ-loop
 cast-first c = search needs
 
 array-read-direct-merged : tie.Need-array-read-direct-merged Inv-loop μ-loop
-array-read-direct-merged c = c .before .before .before .before .pre .firsts _ (c .before .before .loop-test .taken)
+array-read-direct-merged c =
+    let s = c .before .before .before .before in
+    let here = c .before .before .loop-test .taken in omega (arith, s .pre .firsts _ here, s .pre .few, here)
 
 direct-merged-requires : tie.Need-direct-merged-requires Inv-loop μ-loop
 direct-merged-requires c κs = tt
