@@ -67,10 +67,10 @@ module _ (flags : List Bool) (edges : List TableEdge) (a : Agreeing flags edges)
       (best-merged flags edges a n (rowsOf n all) b)
 
 -- of a table's edges as they are kept or turned
-pub table-rows : (n : ℕ) (edges : List TableEdge) → AllApart n edges → LoopFree (mustOf edges)
+pub drawn-rows : (n : ℕ) (edges : List TableEdge) → AllApart n edges → LoopFree (mustOf edges)
     → Best n (orientedEdges n edges) (rowsOf n (orientedEdges n edges))
     → rowsOf n (drawnEdges (turnedEdges n edges) (merged edges)) ≡ rowsOf n (orientedEdges n edges)
-table-rows n edges apart free b =
+drawn-rows n edges apart free b =
     same-rows (turnedEdges n edges) edges (turned-agreeing n edges apart free) n
     (subst (λ (l : List Edge). Within n l) (sym (directed-oriented n edges)) (oriented-within n edges apart))
     (subst (λ (l : List Edge). Best n l (rowsOf n l)) (sym (directed-oriented n edges)) b)

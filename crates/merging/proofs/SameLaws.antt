@@ -28,10 +28,10 @@ pub record Agreeing (flags : List Bool) (edges : List TableEdge) : Type 0 where
 -- ---- the ends of a directed edge
 
 -- how far its head is below its tail
-abbrev pub drop-of : (ℕ → ℕ) → Bool → ℕ → ℕ → ℕ
-drop-of y b from to = cond b (y from - y to) (y to - y from)
+abbrev pub span-between : (ℕ → ℕ) → Bool → ℕ → ℕ → ℕ
+span-between y b from to = cond b (y from - y to) (y to - y from)
 
-pub span-of : (y : ℕ → ℕ) (b : Bool) (e : Edge) → span y (directed b e) ≡ drop-of y b (e .from) (e .to)
+pub span-of : (y : ℕ → ℕ) (b : Bool) (e : Edge) → span y (directed b e) ≡ span-between y b (e .from) (e .to)
 span-of y true e = refl
 span-of y false e = refl
 
@@ -40,14 +40,14 @@ weight-of true e = refl
 weight-of false e = refl
 
 -- a gap fits between the ends
-abbrev Fits : (ℕ → ℕ) → Bool → ℕ → ℕ → ℕ → Type 0
-Fits y b from to gap = cond b (y to) (y from) + gap ≤ cond b (y from) (y to)
+abbrev GapFits : (ℕ → ℕ) → Bool → ℕ → ℕ → ℕ → Type 0
+GapFits y b from to gap = cond b (y to) (y from) + gap ≤ cond b (y from) (y to)
 
-kept-fits : (y : ℕ → ℕ) (b : Bool) (e : Edge) → Kept y (directed b e) → Fits y b (e .from) (e .to) (e .gap)
+kept-fits : (y : ℕ → ℕ) (b : Bool) (e : Edge) → Kept y (directed b e) → GapFits y b (e .from) (e .to) (e .gap)
 kept-fits y true e k = k
 kept-fits y false e k = k
 
-fits-kept : (y : ℕ → ℕ) (b : Bool) (e : Edge) → Fits y b (e .from) (e .to) (e .gap) → Kept y (directed b e)
+fits-kept : (y : ℕ → ℕ) (b : Bool) (e : Edge) → GapFits y b (e .from) (e .to) (e .gap) → Kept y (directed b e)
 fits-kept y true e k = k
 fits-kept y false e k = k
 
@@ -153,7 +153,7 @@ module _ (flags : List Bool) (edges : List TableEdge) (a : Agreeing flags edges)
         flag = getD flags (line .first) false
 
         edge-fits : (j : ℕ) → j < length edges → alike (getD edges (line .first) noTableEdge) (getD edges j noTableEdge) ≡ true
-            → Fits y flag (line .from) (line .to) (getD edges j noTableEdge .gap)
+            → GapFits y flag (line .from) (line .to) (getD edges j noTableEdge .gap)
         edge-fits j l h =
             let s = first-like k j inside l h in
             rw (s .tail, s .head, s .flag)
@@ -164,23 +164,23 @@ module _ (flags : List Bool) (edges : List TableEdge) (a : Agreeing flags edges)
             → getD edges j noTableEdge .gap ≤ most) → line .gap ≤ most
         widest most h = omega (arith, gap-under (getD edges (line .first) noTableEdge) edges most h, ap (λ (x : MergedEdge). x .gap) (merged-first edges k inside .is))
 
-        first-fits : Fits y flag (line .from) (line .to) (getD edges (line .first) noTableEdge .gap)
+        first-fits : GapFits y flag (line .from) (line .to) (getD edges (line .first) noTableEdge .gap)
         first-fits = edge-fits (line .first) (merged-first edges k inside .inside) (alike-self (getD edges (line .first) noTableEdge))
 
-        fits : (b : Bool) → flag ≡ b → Fits y flag (line .from) (line .to) (line .gap)
+        fits : (b : Bool) → flag ≡ b → GapFits y flag (line .from) (line .to) (line .gap)
         fits true e =
             let f = first-fits in
             rw e (omega (
               arith,
-              subst (λ (x : Bool). Fits y x (line .from) (line .to) (getD edges (line .first) noTableEdge .gap)) e f,
-              widest (y (line .from) - y (line .to)) (λ j l h. omega (arith, subst (λ (x : Bool). Fits y x (line .from) (line .to) (getD edges j noTableEdge .gap)) e (edge-fits j l h))),
+              subst (λ (x : Bool). GapFits y x (line .from) (line .to) (getD edges (line .first) noTableEdge .gap)) e f,
+              widest (y (line .from) - y (line .to)) (λ j l h. omega (arith, subst (λ (x : Bool). GapFits y x (line .from) (line .to) (getD edges j noTableEdge .gap)) e (edge-fits j l h))),
             ))
         fits false e =
             let f = first-fits in
             rw e (omega (
               arith,
-              subst (λ (x : Bool). Fits y x (line .from) (line .to) (getD edges (line .first) noTableEdge .gap)) e f,
-              widest (y (line .to) - y (line .from)) (λ j l h. omega (arith, subst (λ (x : Bool). Fits y x (line .from) (line .to) (getD edges j noTableEdge .gap)) e (edge-fits j l h))),
+              subst (λ (x : Bool). GapFits y x (line .from) (line .to) (getD edges (line .first) noTableEdge .gap)) e f,
+              widest (y (line .to) - y (line .from)) (λ j l h. omega (arith, subst (λ (x : Bool). GapFits y x (line .from) (line .to) (getD edges j noTableEdge .gap)) e (edge-fits j l h))),
             ))
 
     pub merged-feasible : Feasible (drawnEdges flags lines) y → Feasible (directedBy flags edges) y
@@ -198,13 +198,13 @@ module _ (flags : List Bool) (edges : List TableEdge) (a : Agreeing flags edges)
         s : Joined (as-line .place) j
         s = first-like (as-line .place) j (as-line .inside) inside (sym (joins-first (as-line .place) (getD edges j noTableEdge) (as-line .inside)) ∙ as-line .joining)
 
-        whole : Fits y (getD flags j false) (getD edges j noTableEdge .from) (getD edges j noTableEdge .to) (line .gap)
+        whole : GapFits y (getD flags j false) (getD edges j noTableEdge .from) (getD edges j noTableEdge .to) (line .gap)
         whole =
             rw (← s .tail, ← s .head, ← s .flag)
             (kept-fits y (getD flags (line .first) false) (asEdge line)
             (subst (Kept y) (drawn-get flags lines (as-line .place) (as-line .inside)) (kept (as-line .place) (omega (arith, drawn-length flags lines, as-line .inside)))))
 
-        small : Fits y (getD flags j false) (getD edges j noTableEdge .from) (getD edges j noTableEdge .to) (getD edges j noTableEdge .gap)
+        small : GapFits y (getD flags j false) (getD edges j noTableEdge .from) (getD edges j noTableEdge .to) (getD edges j noTableEdge .gap)
         small = omega (arith, whole, s .gap)
 
   -- the gap of an edge is no larger than that of what it is drawn as

@@ -18,7 +18,7 @@ use Rattle.merging.proofs.AlikeLaws.{has-ends}
 use Rattle.merging.proofs.MergedLaws.{widened, merged-more, fresh-alone}
 use Rattle.merging.proofs.JoinLaws.{joinings, joinings-one, widen-none}
 use Rattle.merging.proofs.FirstLaws.{merged-first}
-use Rattle.merging.proofs.SameLaws.{Agreeing, drop-of, span-of, weight-of, feasible-merged, merged-feasible}
+use Rattle.merging.proofs.SameLaws.{Agreeing, span-between, span-of, weight-of, feasible-merged, merged-feasible}
 
 -- ---- lists that grow at their end
 
@@ -55,10 +55,10 @@ total-append (e ∷ edges) others y = omega (arith, total-append edges others y)
 
 module _ (flags : List Bool) (y : ℕ → ℕ) where
   -- how far a merged edge reaches
-  abbrev reach : MergedEdge → ℕ
-  reach l = drop-of y (getD flags (l .first) false) (l .from) (l .to)
+  abbrev span-drawn : MergedEdge → ℕ
+  span-drawn l = span-between y (getD flags (l .first) false) (l .from) (l .to)
 
-  cost-is : (l : MergedEdge) → drawnEdge flags l .weight * span y (drawnEdge flags l) ≡ l .weight * reach l
+  cost-is : (l : MergedEdge) → drawnEdge flags l .weight * span y (drawnEdge flags l) ≡ l .weight * span-drawn l
   cost-is l = rw (weight-of (getD flags (l .first) false) (asEdge l), span-of y (getD flags (l .first) false) (asEdge l))
 
   drawn-append : (edges others : List MergedEdge) → total (drawnEdges flags (edges ++ others)) y ≡ total (drawnEdges flags edges) y + total (drawnEdges flags others) y
@@ -68,14 +68,14 @@ module _ (flags : List Bool) (y : ℕ → ℕ) where
 
   -- an edge that joins one adds what it costs itself
   total-joined : (d : TableEdge) (far : ℕ) (edges : List MergedEdge) → joinings d edges ≡ 1
-      → ((k : ℕ) → k < length edges → joins d (getD edges k noMergedEdge) ≡ true → reach (getD edges k noMergedEdge) ≡ far)
+      → ((k : ℕ) → k < length edges → joins d (getD edges k noMergedEdge) ≡ true → span-drawn (getD edges k noMergedEdge) ≡ far)
       → total (drawnEdges flags (map (widened d) edges)) y ≡ total (drawnEdges flags edges) y + d .weight * far
   unfolding total drawnEdges joinings
   total-joined d far [] one h = absurd (omega arith)
   total-joined d far (l ∷ edges) one h = go (joins d l) refl one (total-joined d far edges)
     where
       go : (b : Bool) → joins d l ≡ b → cond b (suc (joinings d edges)) (joinings d edges) ≡ 1
-          → (joinings d edges ≡ 1 → ((k : ℕ) → k < length edges → joins d (getD edges k noMergedEdge) ≡ true → reach (getD edges k noMergedEdge) ≡ far)
+          → (joinings d edges ≡ 1 → ((k : ℕ) → k < length edges → joins d (getD edges k noMergedEdge) ≡ true → span-drawn (getD edges k noMergedEdge) ≡ far)
           → total (drawnEdges flags (map (widened d) edges)) y ≡ total (drawnEdges flags edges) y + d .weight * far)
           → drawnEdge flags (cond b (joined d l) l) .weight * span y (drawnEdge flags (cond b (joined d l) l)) + total (drawnEdges flags (map (widened d) edges)) y
           ≡ drawnEdge flags l .weight * span y (drawnEdge flags l) + total (drawnEdges flags edges) y + d .weight * far
@@ -87,10 +87,10 @@ module _ (flags : List Bool) (y : ℕ → ℕ) where
             rest,
             cost-is l,
             cost-is (joined d l),
-            mul-comm (l .weight + d .weight) (reach l),
-            mul-add (reach l) (l .weight) (d .weight),
-            mul-comm (reach l) (l .weight),
-            mul-comm (reach l) (d .weight),
+            mul-comm (l .weight + d .weight) (span-drawn l),
+            mul-add (span-drawn l) (l .weight) (d .weight),
+            mul-comm (span-drawn l) (l .weight),
+            mul-comm (span-drawn l) (d .weight),
             ap (λ (k : ℕ). d .weight * k) here,
           )
       go false p one ih = omega (arith, ih one (λ k i j. h (suc k) (suc-le-suc i) j))
@@ -98,9 +98,9 @@ module _ (flags : List Bool) (y : ℕ → ℕ) where
   -- the last edge with those before it
   module _ (edges : List TableEdge) (d : TableEdge) (a : Agreeing flags (edges ++ d ∷ [])) where
     abbrev far-of : ℕ
-    far-of = drop-of y (getD flags (length edges) false) (d .from) (d .to)
+    far-of = span-between y (getD flags (length edges) false) (d .from) (d .to)
 
-    reaches : (k : ℕ) → k < length (merged edges) → joins d (getD (merged edges) k noMergedEdge) ≡ true → reach (getD (merged edges) k noMergedEdge) ≡ far-of
+    reaches : (k : ℕ) → k < length (merged edges) → joins d (getD (merged edges) k noMergedEdge) ≡ true → span-drawn (getD (merged edges) k noMergedEdge) ≡ far-of
     reaches k l h = rw (flag, from, to)
       where
         line : MergedEdge

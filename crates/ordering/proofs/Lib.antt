@@ -6,3 +6,4 @@ pub mod CallLaws
 pub mod FigureLaws
 pub mod StepLaws
 pub mod SizeLaws
+pub mod RepeatedLaws
