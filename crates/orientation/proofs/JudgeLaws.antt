@@ -3,6 +3,7 @@ use mathlib.Core.Path.{_≡_, refl, sym, ap, _∙_, subst}
 use mathlib.Core.Bool.{Bool, true, false, true≢false}
 use mathlib.Core.List.{List, [], _∷_, _++_, map, append-nil}
 use Prim.Native.Nat.{ℕ, _+_, _-_, _*_, _≤_, _<_}
+use native.Mathlib.Nat.{mul-le-mul-left, mul-le-mul-right}
 use native.Mathlib.Numerals.{add-one}
 use native.Mathlib.Omega.{arith}
 use lib.ListN.{length, getD, take, drop, set, replicate, length-set, length-drop, length-replicate}
@@ -11,20 +12,26 @@ use Rattle.graph.specs.declared.Edge.{Edge}
 use Rattle.graph.specs.declared.TableEdge.{TableEdge}
 use Rattle.graph.specs.Rows.{at}
 use Rattle.graph.specs.Directed.{ownEdge, noTableEdge}
-use Rattle.table.specs.Limits.{maxEdges}
+use Rattle.table.specs.Limits.{maxSteps, maxEdges}
 use Rattle.table.specs.Fair.{FairEdge}
 use Rattle.buffers.specs.Padded.{padded}
 use Rattle.buffers.proofs.PaddedLaws.{padded-same}
 use Rattle.buffers.proofs.ListLaws.{blank-at}
 use Rattle.acyclic.specs.Oriented.{OrientedEdge, mustOf, leads, turns, standAfter, orientedFrom, oriented, turnedEdges}
 use Rattle.acyclic.proofs.StandingLaws.{leads-walk, leads-none}
+use Rattle.closure.specs.Closure.{Closure, MatrixRoom, Added}
 use Rattle.orientation.specs.Orientable.{Orientable}
-use Rattle.orientation.specs.Closure.{Closure, Added, MustPut, TurnJudged}
+use Rattle.orientation.specs.Judged.{MustPut, TurnJudged}
 use Rattle.orientation.proofs.SoftLaws.{edges-from, edges-past}
 
 -- the first m edges are inside the array
 pub orientable-room : {n m : ℕ} {edges : List TableEdge} → Orientable n m edges → m ≤ length edges
 orientable-room o = omega (arith, o .few-edges, o .long)
+
+-- a matrix of the limit's size has room for any number of steps
+pub orientable-cells : {n m : ℕ} {edges : List TableEdge} → Orientable n m edges → MatrixRoom n (replicate (maxSteps * maxSteps) 0)
+orientable-cells {n} o =
+    record { room = omega (arith, length-replicate {A = ℕ} (maxSteps * maxSteps) 0, mul-le-mul-right n (o .few-steps), mul-le-mul-left maxSteps (o .few-steps)) }
 
 -- ---- must edges
 

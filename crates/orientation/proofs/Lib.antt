@@ -1,7 +1,4 @@
--- Why the matrix says at any time which nodes walks lead to, and what follows for the edges that are turned.
-pub mod CellLaws
-pub mod ClosureLaws
-pub mod MarkLaws
+-- What follows from the matrix of walks for the edges that are turned, and why the must edges are those that the loop finder takes.
 pub mod SoftLaws
 pub mod GatherLaws
 pub mod JudgeLaws

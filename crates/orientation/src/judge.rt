@@ -1,5 +1,5 @@
 // Edges taken in turn: a must edge stands, and a soft one is kept or turned.
-use crate::reach::add_edge;
+use closure::add_edge;
 use graph::TableEdge;
 use table::limits::MAX_EDGES;
 ghost use mathlib.Core.Path.{_≡_};
@@ -12,8 +12,9 @@ ghost use Rattle.table.specs.Limits.{maxSteps, maxEdges};
 ghost use Rattle.table.specs.Fair.{FairEdge};
 ghost use Rattle.buffers.specs.Padded.{padded};
 ghost use Rattle.acyclic.specs.Oriented.{mustOf, turnedEdges};
+ghost use Rattle.closure.specs.Closure.{MatrixRoom, Closure};
 ghost use Rattle.orientation.specs.Orientable.{Orientable};
-ghost use Rattle.orientation.specs.Closure.{MatrixRoom, Closure, MustPut, TurnJudged};
+ghost use Rattle.orientation.specs.Judged.{MustPut, TurnJudged};
 
 // The must edges of the first m edges put in. The order makes no difference to the walks; from the last to the first, each comes in front of
 // those behind it, as in the list of the definition.

@@ -1,14 +1,13 @@
 // Cycle removal: which of a table's soft edges are turned, so that no loop is left; and the loops of must edges, which no turning removes.
 mod gather;
 mod judge;
-mod reach;
 
 use crate::gather::gather_must;
 use crate::judge::judge_edges;
 use crate::judge::put_must;
-use crate::reach::CELLS;
 use acyclic::find_loop;
 use acyclic::settle::Found;
+use closure::CELLS;
 use graph::TableEdge;
 use table::limits::MAX_EDGES;
 use table::limits::MAX_GAP;

@@ -1,8 +1,9 @@
 -- The empty matrix, that of the must edges, and the flags.
 use Prim.Native.Nat.{_*_}
 use Rattle.table.specs.Limits.{maxSteps}
-use Rattle.orientation.proofs.CellLaws.{orientable-cells, room-same}
-use Rattle.orientation.proofs.ClosureLaws.{closure-none}
+use Rattle.closure.proofs.CellLaws.{room-same}
+use Rattle.closure.proofs.ClosureLaws.{closure-none}
+use Rattle.orientation.proofs.JudgeLaws.{orientable-cells}
 use borrow.Author.Needs.{needs}
 use Rattle.orientation.proofs.orient_edges.Statement.{statement}
 use Rattle.orientation.proofs.orient_edges.Tie as tie

@@ -2,7 +2,7 @@
 use native.Mathlib.Omega.{arith}
 use borrow.Author.Tests.{not-true, not-false}
 use Rattle.buffers.proofs.IndexLaws.{positive}
-use Rattle.orientation.proofs.CellLaws.{row-room}
+use Rattle.closure.proofs.CellLaws.{row-room}
 use Rattle.orientation.proofs.JudgeLaws.{judged-must, judged-turned, judged-kept}
 use borrow.Author.Needs.{needs}
 use Rattle.orientation.proofs.judge.judge_edge.Statement.{statement}

@@ -3,7 +3,7 @@ use mathlib.Core.Path.{_≡_}
 use Prim.Native.Nat.{_-_, _≤_}
 use native.Mathlib.Omega.{arith}
 use lib.ListN.{length}
-use Rattle.orientation.proofs.CellLaws.{room-same}
+use Rattle.closure.proofs.CellLaws.{room-same}
 use Rattle.orientation.proofs.JudgeLaws.{Judging, judging-none, judging-more, judging-all, orientable-room}
 use Rattle.orientation.proofs.judge.judge_edges.Statement.{statement}
 use Rattle.orientation.proofs.judge.judge_edges.Tie as tie

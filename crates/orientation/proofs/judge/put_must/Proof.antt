@@ -3,7 +3,7 @@ use mathlib.Core.Path.{_≡_}
 use Prim.Native.Nat.{_≤_}
 use native.Mathlib.Omega.{arith}
 use lib.ListN.{length}
-use Rattle.orientation.proofs.CellLaws.{room-same}
+use Rattle.closure.proofs.CellLaws.{room-same}
 use Rattle.orientation.proofs.JudgeLaws.{Putting, putting-none, putting-more, putting-all, orientable-room}
 use Rattle.orientation.proofs.judge.put_must.Statement.{statement}
 use Rattle.orientation.proofs.judge.put_must.Tie as tie

@@ -4,10 +4,10 @@ use native.Mathlib.Omega.{arith}
 use Rattle.graph.specs.Rows.{at}
 use Rattle.table.specs.Limits.{maxSteps}
 use Rattle.buffers.proofs.CopyLaws.{Copied, copied-none, copied-more}
-use Rattle.orientation.proofs.CellLaws.{row-room}
-use Rattle.orientation.proofs.MarkLaws.{fresh-is}
-use Rattle.orientation.proofs.reach.onward_from.Statement.{statement}
-use Rattle.orientation.proofs.reach.onward_from.Tie as tie
+use Rattle.closure.proofs.CellLaws.{row-room}
+use Rattle.closure.proofs.MarkLaws.{fresh-is}
+use Rattle.closure.proofs.onward_from.Statement.{statement}
+use Rattle.closure.proofs.onward_from.Tie as tie
 
 abbrev Inv-loop : tie.InvT-loop
 Inv-loop reach n b base fresh₀ v₀ fresh v = Copied maxSteps (λ (k : ℕ). at reach (base + k)) v fresh × (v ≤ n)

@@ -2,14 +2,11 @@
 use mathlib.Core.Path.{_≡_}
 use mathlib.Core.List.{List}
 use Prim.Native.Nat.{ℕ, _+_, _*_, _≤_, _<_}
-use native.Mathlib.Nat.{mul-le-mul-left, mul-le-mul-right, suc-mul}
+use native.Mathlib.Nat.{mul-le-mul-right, suc-mul}
 use native.Mathlib.Decide.{decLt}
 use native.Mathlib.Omega.{arith}
-use lib.ListN.{length, replicate, length-replicate}
-use Rattle.graph.specs.declared.TableEdge.{TableEdge}
-use Rattle.table.specs.Limits.{maxSteps}
-use Rattle.orientation.specs.Orientable.{Orientable}
-use Rattle.orientation.specs.Closure.{MatrixRoom}
+use lib.ListN.{length}
+use Rattle.closure.specs.Closure.{MatrixRoom}
 
 -- a row ends where the next begins, and the rows below it end before it
 row-below : (n u w : ℕ) → u < w → u * n + n ≤ w * n
@@ -36,8 +33,3 @@ cell-apart n u w v h ne = go (decLt w u) (decLt u w)
 -- room is a matter of the length
 pub room-same : {n : ℕ} {old new : List ℕ} → length new ≡ length old → MatrixRoom n old → MatrixRoom n new
 room-same e r = record { room = omega (arith, r .room) }
-
--- a matrix of the limit's size has room for any number of steps
-pub orientable-cells : {n m : ℕ} {edges : List TableEdge} → Orientable n m edges → MatrixRoom n (replicate (maxSteps * maxSteps) 0)
-orientable-cells {n} o =
-    record { room = omega (arith, length-replicate {A = ℕ} (maxSteps * maxSteps) 0, mul-le-mul-right n (o .few-steps), mul-le-mul-left maxSteps (o .few-steps)) }

@@ -2,10 +2,10 @@
 use Prim.Native.Nat.{_-_, _≤_}
 use native.Mathlib.Omega.{arith}
 use borrow.Author.Needs.{needs}
-use Rattle.orientation.specs.Closure.{RowMarked}
-use Rattle.orientation.proofs.MarkLaws.{marked-none, marked-more, marked-all}
-use Rattle.orientation.proofs.reach.mark_row.Statement.{statement}
-use Rattle.orientation.proofs.reach.mark_row.Tie as tie
+use Rattle.closure.specs.Closure.{RowMarked}
+use Rattle.closure.proofs.MarkLaws.{marked-none, marked-more, marked-all}
+use Rattle.closure.proofs.mark_row.Statement.{statement}
+use Rattle.closure.proofs.mark_row.Tie as tie
 
 abbrev Inv-loop : tie.InvT-loop
 Inv-loop reach₀ fresh base n v₀ reach v = RowMarked base v fresh reach₀ reach × (v ≤ n)

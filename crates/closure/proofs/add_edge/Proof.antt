@@ -1,11 +1,11 @@
 -- A walk from a to b is known, or every row is extended by what is onward from b.
 use native.Mathlib.Omega.{arith}
 use Rattle.buffers.proofs.IndexLaws.{positive}
-use Rattle.orientation.proofs.CellLaws.{row-room}
-use Rattle.orientation.proofs.ClosureLaws.{added-known, added-new}
+use Rattle.closure.proofs.CellLaws.{row-room}
+use Rattle.closure.proofs.ClosureLaws.{added-known, added-new}
 use borrow.Author.Needs.{needs}
-use Rattle.orientation.proofs.reach.add_edge.Statement.{statement}
-use Rattle.orientation.proofs.reach.add_edge.Tie as tie
+use Rattle.closure.proofs.add_edge.Statement.{statement}
+use Rattle.closure.proofs.add_edge.Tie as tie
 
 mul-if1 : tie.Need-mul-if1
 mul-if1 c = let s = c .before in omega (arith, row-room _ _ (s .pre .1 .0) _ (s .pre .0 .1), s .good)

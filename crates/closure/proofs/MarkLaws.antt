@@ -8,7 +8,7 @@ use Rattle.graph.specs.Rows.{at}
 use Rattle.table.specs.Limits.{maxSteps}
 use Rattle.buffers.proofs.ListLaws.{hit, miss, set-cases}
 use Rattle.buffers.proofs.CopyLaws.{Copied}
-use Rattle.orientation.specs.Closure.{Fresh, either, RowMarked}
+use Rattle.closure.specs.Closure.{Fresh, either, RowMarked}
 
 pub marked-none : (base : ℕ) (fresh old : List ℕ) → RowMarked base 0 fresh old old
 marked-none base fresh old =

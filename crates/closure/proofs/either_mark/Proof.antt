@@ -1,8 +1,8 @@
 -- By the test of the first mark.
 use borrow.Author.Tests.{lt-ltb, le-ltb}
-use Rattle.orientation.specs.Closure.{either}
-use Rattle.orientation.proofs.reach.either_mark.Statement.{statement}
-use Rattle.orientation.proofs.reach.either_mark.Tie as tie
+use Rattle.closure.specs.Closure.{either}
+use Rattle.closure.proofs.either_mark.Statement.{statement}
+use Rattle.closure.proofs.either_mark.Tie as tie
 
 returns : tie.Need-returns
 unfolding either

@@ -1,18 +1,15 @@
 -- Which nodes walks lead to, as a matrix of marks for n nodes: entry u * n + v is above 0 where a walk leads from u to v.
 use mathlib.Core.Path.{_≡_}
 use mathlib.Core.Logic.{_⊎_}
-use mathlib.Core.Bool.{Bool, true, false, cond}
+use mathlib.Core.Bool.{cond}
 use mathlib.Core.List.{List, _∷_}
 use Prim.Native.Nat.{ℕ, _+_, _*_, _≤_, _<_}
 use lib.Dec.{ltb}
 use lib.ListN.{length}
 use Rattle.graph.specs.declared.Edge.{Edge}
-use Rattle.graph.specs.declared.TableEdge.{TableEdge}
-use Rattle.graph.specs.Directed.{ownEdge}
 use Rattle.graph.specs.Rows.{at, Within}
 use Rattle.table.specs.Limits.{maxSteps}
 use Rattle.acyclic.specs.Loops.{Walk}
-use Rattle.acyclic.specs.Oriented.{turns, standAfter}
 
 -- row u marks the nodes that a walk leads to from u, and no others
 pub record ClosureRow (n : ℕ) (stand : List Edge) (u : ℕ) (reach : List ℕ) : Type 0 where
@@ -67,15 +64,3 @@ pub record Extended (n a b k : ℕ) (fresh old new : List ℕ) : Type 0 where
 pub record Added (n a b : ℕ) (old new : List ℕ) : Type 0 where
   pub long : length new ≡ length old
   pub closure : (stand : List Edge) (e : Edge) → e .from ≡ a → e .to ≡ b → Closure n stand old → Closure n (e ∷ stand) new
-
--- a must edge is put in, and a soft one is not
-pub record MustPut (n : ℕ) (e : TableEdge) (old new : List ℕ) : Type 0 where
-  pub long : length new ≡ length old
-  pub must : e .soft ≡ false → (stand : List Edge) → Closure n stand old → Closure n (ownEdge e ∷ stand) new
-  pub soft : e .soft ≡ true → new ≡ old
-
--- whether an edge is turned, and the matrix of the edges that stand after it
-pub record TurnJudged (n : ℕ) (e : TableEdge) (old new : List ℕ) (turned : Bool) : Type 0 where
-  pub long : length new ≡ length old
-  pub says : (stand : List Edge) → Closure n stand old → turned ≡ turns n stand e
-  pub stands : (stand : List Edge) → Closure n stand old → Closure n (standAfter turned e stand) new

@@ -2,11 +2,11 @@
 use mathlib.Core.Logic.{inl, inr, ⊎-elim}
 use native.Mathlib.Omega.{arith}
 use Rattle.buffers.proofs.IndexLaws.{positive}
-use Rattle.orientation.proofs.CellLaws.{row-room}
-use Rattle.orientation.proofs.ClosureLaws.{extended-has, extended-away, extended-marked}
+use Rattle.closure.proofs.CellLaws.{row-room}
+use Rattle.closure.proofs.ClosureLaws.{extended-has, extended-away, extended-marked}
 use borrow.Author.Needs.{needs}
-use Rattle.orientation.proofs.reach.extend_row.Statement.{statement}
-use Rattle.orientation.proofs.reach.extend_row.Tie as tie
+use Rattle.closure.proofs.extend_row.Statement.{statement}
+use Rattle.closure.proofs.extend_row.Tie as tie
 
 mul-base : tie.Need-mul-base
 mul-base c = let s = c .before .before in omega (arith, row-room _ _ (s .pre .1 .2) _ (s .pre .0 .0), s .good)

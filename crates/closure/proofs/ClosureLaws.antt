@@ -16,8 +16,8 @@ use Rattle.buffers.proofs.ListLaws.{zero-at}
 use Rattle.acyclic.specs.Loops.{Walk}
 use Rattle.acyclic.specs.Loops as loops
 use Rattle.acyclic.proofs.RunLaws.{Reach, walk-join, walk-replace, runs-cons, runs-same, walk-later, walk-split, walk-over}
-use Rattle.orientation.specs.Closure.{ClosureRow, Closure, Fresh, OnwardMarks, either, RowMarked, RowExtended, Extended, Added}
-use Rattle.orientation.proofs.CellLaws.{Apart, before, behind, cell-apart}
+use Rattle.closure.specs.Closure.{ClosureRow, Closure, Fresh, OnwardMarks, either, RowMarked, RowExtended, Extended, Added}
+use Rattle.closure.proofs.CellLaws.{Apart, before, behind, cell-apart}
 
 -- ---- one row
 

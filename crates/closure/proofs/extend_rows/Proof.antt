@@ -1,11 +1,11 @@
 -- The first u rows are extended, and the others are as they were.
 use Prim.Native.Nat.{_-_, _≤_}
 use native.Mathlib.Omega.{arith}
-use Rattle.orientation.specs.Closure.{Extended}
-use Rattle.orientation.proofs.CellLaws.{room-same}
-use Rattle.orientation.proofs.ClosureLaws.{rows-none, rows-more, rows-all}
-use Rattle.orientation.proofs.reach.extend_rows.Statement.{statement}
-use Rattle.orientation.proofs.reach.extend_rows.Tie as tie
+use Rattle.closure.specs.Closure.{Extended}
+use Rattle.closure.proofs.CellLaws.{room-same}
+use Rattle.closure.proofs.ClosureLaws.{rows-none, rows-more, rows-all}
+use Rattle.closure.proofs.extend_rows.Statement.{statement}
+use Rattle.closure.proofs.extend_rows.Tie as tie
 
 abbrev Inv-loop : tie.InvT-loop
 Inv-loop reach₀ fresh n a b u₀ reach u = Extended n a b u fresh reach₀ reach × (u ≤ n)

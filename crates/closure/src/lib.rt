@@ -5,7 +5,7 @@ ghost use mathlib.Core.Path.{_≡_};
 ghost use Prim.Native.Nat.{_+_, _*_, _≤_, _<_};
 ghost use lib.ListN.{length};
 ghost use Rattle.table.specs.Limits.{maxSteps};
-ghost use Rattle.orientation.specs.Closure.{MatrixRoom, Fresh, either, RowMarked, RowExtended, Extended, Added};
+ghost use Rattle.closure.specs.Closure.{MatrixRoom, Fresh, either, RowMarked, RowExtended, Extended, Added};
 
 // How many marks a matrix has at most.
 pub const CELLS: usize = MAX_STEPS * MAX_STEPS;
@@ -50,7 +50,7 @@ fn extend_rows(reach: &mut [u8], fresh: &[u8], n: usize, a: usize, b: usize)
     }
 }
 
-// ClosureRow u extended by the edge from a to b, if u is a or leads to it. A row that marks b marks all that is onward from b already.
+// Row u extended by the edge from a to b, if u is a or leads to it. A row that marks b marks all that is onward from b already.
 fn extend_row(reach: &mut [u8], fresh: &[u8], n: usize, a: usize, b: usize, u: usize)
     requires { ⌜ MatrixRoom n (now reach) × (n ≤ length (now fresh)) ⌝ }
     requires { ⌜ (a < n) × (b < n) × (u < n) ⌝ }
