@@ -1,15 +1,14 @@
--- Each edge is drawn as one with exactly one merged edge, and its slot says which.
+-- Each edge is drawn as one with exactly one merged edge, and one edge more changes that alone.
 use mathlib.Core.Path.{_≡_, refl, sym, ap, _∙_}
 use mathlib.Core.Bool.{Bool, true, false, _&&_, not, cond, true≢false}
 use mathlib.Core.List.{List, [], _∷_, _++_, map}
 use Prim.Native.Nat.{ℕ, zero, suc, _+_, _<_, suc-le-suc}
-use native.Mathlib.Nat.{zero-lt-suc}
+use native.Mathlib.Nat.{zero-lt-suc, not-suc-le-zero, le-of-suc-le-suc}
 use native.Mathlib.Omega.{arith}
 use lib.ListN.{length, getD, set}
 use Rattle.graph.specs.declared.TableEdge.{TableEdge}
 use Rattle.merging.specs.declared.MergedEdge.{MergedEdge}
 use Rattle.merging.specs.Merged.{noMergedEdge, alike, noneLike, mergedAt, mergedFrom, merged, joins, joined}
-use Rattle.merging.specs.Merging.{laterSlot, slotOf}
 use Rattle.merging.proofs.AlikeLaws.{alike-swap}
 use Rattle.merging.proofs.MergedLaws.{widened, none-more, none-both}
 
@@ -57,51 +56,31 @@ pub joinings-one : (d : TableEdge) (edges : List TableEdge) → joinings d (merg
 unfolding merged noneLike
 joinings-one d edges = joinings-from d edges [] 0 edges
 
--- ---- the slot of an edge
-
-pub later-none : (slot : ℕ) → laterSlot slot ≡ 0 → slot ≡ 0
-unfolding laterSlot
-later-none zero h = refl
-later-none (suc k) h = absurd (omega arith)
-
-later-some : (slot k : ℕ) → laterSlot slot ≡ suc (suc k) → slot ≡ suc k
-unfolding laterSlot
-later-some zero k h = absurd (omega arith)
-later-some (suc j) k h = omega arith
-
-later-not : (slot : ℕ) → laterSlot slot ≡ 1 → ⊥
-unfolding laterSlot
-later-not zero h = omega arith
-later-not (suc k) h = omega arith
-
-pub slot-none : (d : TableEdge) (edges : List MergedEdge) → slotOf d edges ≡ 0 → joinings d edges ≡ 0
-unfolding slotOf joinings
-slot-none d [] h = refl
-slot-none d (old ∷ edges) h = go (joins d old) h (slot-none d edges)
+-- one that is joined counts
+pub joined-some : (d : TableEdge) (edges : List MergedEdge) (k : ℕ) → k < length edges → joins d (getD edges k noMergedEdge) ≡ true → 0 < joinings d edges
+unfolding joinings
+joined-some d [] k h j = absurd (not-suc-le-zero h)
+joined-some d (old ∷ edges) zero h j = rw j (omega arith)
+joined-some d (old ∷ edges) (suc k) h j = go (joins d old) (joined-some d edges k (le-of-suc-le-suc h) j)
   where
-    go : (b : Bool) → cond b 1 (laterSlot (slotOf d edges)) ≡ 0 → (slotOf d edges ≡ 0 → joinings d edges ≡ 0) → cond b (suc (joinings d edges)) (joinings d edges) ≡ 0
-    go true h ih = absurd (omega arith)
-    go false h ih = omega (arith, ih (later-none (slotOf d edges) h))
+    go : (b : Bool) → 0 < joinings d edges → 0 < cond b (suc (joinings d edges)) (joinings d edges)
+    go true h = omega arith
+    go false h = h
 
--- a slot is that of a merged edge, which the edge joins
-pub record Slot (d : TableEdge) (edges : List MergedEdge) (k : ℕ) : Type 0 where
-  pub inside : k < length edges
-  pub joining : joins d (getD edges k noMergedEdge) ≡ true
-  pub some : 0 < joinings d edges
+-- and what counts stands somewhere
+pub record Joining (d : TableEdge) (edges : List MergedEdge) : Type 0 where
+  pub place : ℕ
+  pub inside : place < length edges
+  pub joining : joins d (getD edges place noMergedEdge) ≡ true
 
-pub slot-some : (d : TableEdge) (edges : List MergedEdge) (k : ℕ) → slotOf d edges ≡ suc k → Slot d edges k
-unfolding slotOf joinings
-slot-some d [] k h = absurd (omega arith)
-slot-some d (old ∷ edges) k h = go (joins d old) refl k h (slot-some d edges)
+pub joined-place : (d : TableEdge) (edges : List MergedEdge) → 0 < joinings d edges → Joining d edges
+unfolding joinings
+joined-place d [] h = absurd (not-suc-le-zero h)
+joined-place d (old ∷ edges) h = go (joins d old) refl h (joined-place d edges)
   where
-    go : (b : Bool) → joins d old ≡ b → (j : ℕ) → cond b 1 (laterSlot (slotOf d edges)) ≡ suc j → ((k : ℕ) → slotOf d edges ≡ suc k → Slot d edges k)
-        → Slot d (old ∷ edges) j
-    go true p zero h ih = record { inside = zero-lt-suc (length edges); joining = p; some = rw p (omega arith) }
-    go true p (suc j) h ih = absurd (omega arith)
-    go false p zero h ih = absurd (later-not (slotOf d edges) h)
-    go false p (suc j) h ih =
-        let s = ih j (later-some (slotOf d edges) j h) in
-        record { inside = suc-le-suc (s .inside); joining = s .joining; some = rw p (omega (arith, s .some)) }
+    go : (b : Bool) → joins d old ≡ b → 0 < cond b (suc (joinings d edges)) (joinings d edges) → (0 < joinings d edges → Joining d edges) → Joining d (old ∷ edges)
+    go true p h ih = record { place = 0; inside = zero-lt-suc (length edges); joining = p }
+    go false p h ih = let j = ih h in record { place = suc (j .place); inside = suc-le-suc (j .inside); joining = j .joining }
 
 -- ---- widening
 
@@ -116,17 +95,22 @@ widen-none d (old ∷ edges) h = go (joins d old) h (widen-none d edges)
     go true h ih = absurd (omega arith)
     go false h ih = ap (λ (l : List MergedEdge). old ∷ l) (ih (omega arith))
 
--- one that joins one changes the one in its slot
-pub widen-one : (d : TableEdge) (edges : List MergedEdge) (k : ℕ) → slotOf d edges ≡ suc k → joinings d edges ≡ 1
+-- one that joins one changes that one
+pub widen-one : (d : TableEdge) (edges : List MergedEdge) (k : ℕ) → k < length edges → joins d (getD edges k noMergedEdge) ≡ true → joinings d edges ≡ 1
     → map (widened d) edges ≡ set edges k (joined d (getD edges k noMergedEdge))
-unfolding joinings slotOf
-widen-one d [] k h one = absurd (omega arith)
-widen-one d (old ∷ edges) k h one = go (joins d old) k h one (widen-one d edges)
+unfolding joinings
+widen-one d [] k h j one = absurd (not-suc-le-zero h)
+widen-one d (old ∷ edges) zero h j one = go (joins d old) j one
   where
-    go : (b : Bool) (j : ℕ) → cond b 1 (laterSlot (slotOf d edges)) ≡ suc j → cond b (suc (joinings d edges)) (joinings d edges) ≡ 1
-        → ((k : ℕ) → slotOf d edges ≡ suc k → joinings d edges ≡ 1 → map (widened d) edges ≡ set edges k (joined d (getD edges k noMergedEdge)))
-        → cond b (joined d old) old ∷ map (widened d) edges ≡ set (old ∷ edges) j (joined d (getD (old ∷ edges) j noMergedEdge))
-    go true zero h one ih = ap (λ (l : List MergedEdge). joined d old ∷ l) (widen-none d edges (omega arith))
-    go true (suc j) h one ih = absurd (omega arith)
-    go false zero h one ih = absurd (later-not (slotOf d edges) h)
-    go false (suc j) h one ih = ap (λ (l : List MergedEdge). old ∷ l) (ih j (later-some (slotOf d edges) j h) (omega arith))
+    go : (b : Bool) → b ≡ true → cond b (suc (joinings d edges)) (joinings d edges) ≡ 1
+        → cond b (joined d old) old ∷ map (widened d) edges ≡ joined d old ∷ edges
+    go true p one = ap (λ (l : List MergedEdge). joined d old ∷ l) (widen-none d edges (omega arith))
+    go false p one = absurd (true≢false (sym p))
+widen-one d (old ∷ edges) (suc k) h j one =
+    go (joins d old) one (joined-some d edges k (le-of-suc-le-suc h) j) (widen-one d edges k (le-of-suc-le-suc h) j)
+  where
+    go : (b : Bool) → cond b (suc (joinings d edges)) (joinings d edges) ≡ 1 → 0 < joinings d edges
+        → (joinings d edges ≡ 1 → map (widened d) edges ≡ set edges k (joined d (getD edges k noMergedEdge)))
+        → cond b (joined d old) old ∷ map (widened d) edges ≡ old ∷ set edges k (joined d (getD edges k noMergedEdge))
+    go true one some ih = absurd (omega arith)
+    go false one some ih = ap (λ (l : List MergedEdge). old ∷ l) (ih one)

@@ -2,7 +2,7 @@
 pub mod AlikeLaws
 pub mod MergedLaws
 pub mod JoinLaws
-pub mod MarkLaws
+pub mod ChainLaws
 pub mod FirstLaws
 pub mod MergingLaws
 pub mod SameLaws

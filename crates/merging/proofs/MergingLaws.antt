@@ -2,10 +2,9 @@
 use mathlib.Core.Path.{_≡_, refl, sym, ap, _∙_, subst}
 use mathlib.Core.Bool.{Bool, true, false, cond}
 use mathlib.Core.List.{List, [], _∷_, _++_, map, append-nil}
-use Prim.Native.Nat.{ℕ, zero, suc, _+_, _-_, _≤_, _<_}
+use Prim.Native.Nat.{ℕ, suc, _+_, _-_, _≤_, _<_}
 use native.Mathlib.Numerals.{add-one}
 use native.Mathlib.Omega.{arith}
-use borrow.Author.Tests.{ne-eqb}
 use lib.ListN.{length, getD, take, set, replicate, length-append, length-set, List·getD-append}
 use lib.Seq.{append-snoc, getD-take, length-take-le, take-suc, set-at, set-append-left}
 use Rattle.graph.specs.declared.TableEdge.{TableEdge}
@@ -14,13 +13,13 @@ use Rattle.table.specs.Limits.{maxSteps, maxEdges, maxWeight}
 use Rattle.table.specs.Fair.{FairEdge}
 use Rattle.buffers.specs.Padded.{padded}
 use Rattle.merging.specs.declared.MergedEdge.{MergedEdge}
-use Rattle.merging.specs.Merged.{noMergedEdge, noneLike, mergedAt, mergedFrom, merged, mergedAlone, joined}
+use Rattle.merging.specs.Merged.{noMergedEdge, noneLike, mergedAt, mergedFrom, merged, joins, mergedAlone, joined}
 use Rattle.merging.specs.declared.MergedEdges.{MergedEdges}
-use Rattle.merging.specs.Merging.{maxAdded, Mergeable, mergedArray, cellOf, cellCount, slotOf, placeIn, Marked}
+use Rattle.merging.specs.Merging.{maxAdded, Mergeable, mergedArray, keyOf, Links, SlotFound, Chained}
 use Rattle.merging.proofs.MergedLaws.{widened, merged-more, fresh-alone}
-use Rattle.merging.proofs.JoinLaws.{joinings, joinings-one, slot-none, slot-some, widen-none, widen-one}
-use Rattle.merging.proofs.MarkLaws.{cell-in, marked-none, marked-join, marked-start}
-use Rattle.merging.proofs.FirstLaws.{merged-few, merged-light}
+use Rattle.merging.proofs.JoinLaws.{joinings, joinings-one, joined-some, widen-none, widen-one}
+use Rattle.merging.proofs.ChainLaws.{chained-none, chained-join, chained-start, links, head-low, slot-low, slot-joins, slot-nowhere}
+use Rattle.merging.proofs.FirstLaws.{merged-first, merged-few, merged-light}
 
 -- ---- one edge more
 
@@ -31,12 +30,9 @@ module _ (edges : List TableEdge) (e : TableEdge) where
   firsts : (b : Bool) → noneLike e edges ≡ b → joinings e so-far ≡ cond b 0 1
   firsts b h = joinings-one e edges ∙ ap (λ (x : Bool). cond x 0 1) h
 
-  pub more-start : slotOf e so-far ≡ 0 → merged (edges ++ e ∷ []) ≡ so-far ++ mergedAlone (length edges) e ∷ []
-  more-start h = go (noneLike e edges) refl (merged-more edges e)
+  pub more-start : joinings e so-far ≡ 0 → merged (edges ++ e ∷ []) ≡ so-far ++ mergedAlone (length edges) e ∷ []
+  more-start none = go (noneLike e edges) refl (merged-more edges e)
     where
-      none : joinings e so-far ≡ 0
-      none = slot-none e so-far h
-
       go : (b : Bool) → noneLike e edges ≡ b
           → merged (edges ++ e ∷ []) ≡ map (widened e) so-far ++ cond b (mergedAt (edges ++ e ∷ []) (length edges) e ∷ []) []
           → merged (edges ++ e ∷ []) ≡ so-far ++ mergedAlone (length edges) e ∷ []
@@ -45,27 +41,17 @@ module _ (edges : List TableEdge) (e : TableEdge) where
           ∙ ap (λ (x : MergedEdge). so-far ++ x ∷ []) (fresh-alone edges e b)
       go false b m = absurd (omega (arith, none, firsts false b))
 
-  pub more-join : (k : ℕ) → slotOf e so-far ≡ suc k
+  pub more-join : (k : ℕ) → k < length so-far → joins e (getD so-far k noMergedEdge) ≡ true
       → (merged (edges ++ e ∷ []) ≡ map (widened e) so-far) × (merged (edges ++ e ∷ []) ≡ set so-far k (joined e (getD so-far k noMergedEdge)))
-  more-join k h = go (noneLike e edges) refl (merged-more edges e)
+  more-join k l h = go (noneLike e edges) refl (merged-more edges e)
     where
       go : (b : Bool) → noneLike e edges ≡ b
           → merged (edges ++ e ∷ []) ≡ map (widened e) so-far ++ cond b (mergedAt (edges ++ e ∷ []) (length edges) e ∷ []) []
           → (merged (edges ++ e ∷ []) ≡ map (widened e) so-far) × (merged (edges ++ e ∷ []) ≡ set so-far k (joined e (getD so-far k noMergedEdge)))
-      go true b m = absurd (omega (arith, slot-some e so-far k h .some, firsts true b))
+      go true b m = absurd (omega (arith, joined-some e so-far k l h, firsts true b))
       go false b m =
           let wide = m ∙ append-nil (map (widened e) so-far) in
-          (wide, wide ∙ widen-one e so-far k h (firsts false b))
-
--- ---- the place that a slot says
-
-place-none : (count : ℕ) → placeIn 0 count ≡ count
-unfolding placeIn
-place-none count = refl
-
-place-some : (k count : ℕ) → placeIn (suc k) count ≡ k
-unfolding placeIn
-place-some k count = rw (ne-eqb (suc k) 0 (λ e. omega (arith, e))) (omega arith)
+          (wide, wide ∙ widen-one e so-far k l h (firsts false b))
 
 -- ---- arrays
 
@@ -91,17 +77,17 @@ module _ (k : ℕ) (blank : MergedEdge) where
 -- ---- the loop
 
 -- the first i edges are merged
-pub record Merging (edges : List TableEdge) (i : ℕ) (list : List MergedEdge) (count : ℕ) (cells : List ℕ) : Type 0 where
+pub record Merging (edges : List TableEdge) (i : ℕ) (list : List MergedEdge) (keys next heads : List ℕ) (count : ℕ) : Type 0 where
   pub listed : list ≡ padded maxEdges noMergedEdge (merged (take i edges))
   pub counted : count ≡ length (merged (take i edges))
-  pub marked : Marked (merged (take i edges)) cells
+  pub chained : Chained (merged (take i edges)) keys next heads
 
-pub merging-none : (edges : List TableEdge) → Merging edges 0 (replicate maxEdges noMergedEdge) 0 (replicate cellCount 0)
+pub merging-none : (edges : List TableEdge) → Merging edges 0 (replicate maxEdges noMergedEdge) (replicate maxEdges 0) (replicate maxEdges 0) (replicate maxSteps 0) 0
 unfolding padded merged mergedFrom
-merging-none edges = record { listed = refl; counted = refl; marked = marked-none }
+merging-none edges = record { listed = refl; counted = refl; chained = chained-none }
 
-module _ (m : ℕ) (edges : List TableEdge) (ok : Mergeable m edges) (i : ℕ) (h : i < m) (list : List MergedEdge) (count : ℕ) (cells : List ℕ)
-    (s : Merging edges i list count cells) where
+module _ (m : ℕ) (edges : List TableEdge) (ok : Mergeable m edges) (i : ℕ) (h : i < m) (list : List MergedEdge) (keys next heads : List ℕ) (count : ℕ)
+    (s : Merging edges i list keys next heads count) where
   abbrev edge : TableEdge
   edge = getD edges i noTableEdge
 
@@ -114,16 +100,19 @@ module _ (m : ℕ) (edges : List TableEdge) (ok : Mergeable m edges) (i : ℕ) (
   taken : length (take i edges) ≡ i
   taken = length-take-le i edges (omega (arith, ok .long, ok .few))
 
-  next : take (i + 1) edges ≡ take i edges ++ edge ∷ []
-  next = ap (λ (k : ℕ). take k edges) (add-one i) ∙ take-suc edges i noTableEdge (omega (arith, ok .long, ok .few))
+  following : take (i + 1) edges ≡ take i edges ++ edge ∷ []
+  following = ap (λ (k : ℕ). take k edges) (add-one i) ∙ take-suc edges i noTableEdge (omega (arith, ok .long, ok .few))
 
   pub few-so-far : count < maxEdges
   few-so-far = omega (arith, s .counted, merged-few (take i edges), taken, ok .few)
 
-  low : (j : ℕ) → j < length (take i edges) → getD (take i edges) j noTableEdge .weight ≤ maxWeight
-  low j b =
+  fair-at : (j : ℕ) → j < length (take i edges) → FairEdge maxSteps (ownEdge (getD (take i edges) j noTableEdge))
+  fair-at j b =
       let inner : j < i = omega (arith, taken) in
-      subst (λ (x : TableEdge). x .weight ≤ maxWeight) (sym (getD-take i edges j noTableEdge inner)) (ok .each j (omega arith) .weight-low)
+      subst (λ (x : TableEdge). FairEdge maxSteps (ownEdge x)) (sym (getD-take i edges j noTableEdge inner)) (ok .each j (omega arith))
+
+  heads-low : (k : ℕ) → k < length before → getD before k noMergedEdge .to < maxSteps
+  heads-low k l = let f = merged-first (take i edges) k l in omega (arith, ap (λ (x : MergedEdge). x .to) (f .is), fair-at (getD before k noMergedEdge .first) (f .inside) .to-in)
 
   got : (k : ℕ) → k < count → getD list k noMergedEdge ≡ getD before k noMergedEdge
   got k b = ap (λ (x : List MergedEdge). getD x k noMergedEdge) (s .listed) ∙ padded-get maxEdges noMergedEdge before k (omega (arith, s .counted))
@@ -131,63 +120,60 @@ module _ (m : ℕ) (edges : List TableEdge) (ok : Mergeable m edges) (i : ℕ) (
   -- what an edge joins has little weight so far
   pub joined-light : (k : ℕ) → k < count → getD list k noMergedEdge .weight ≤ maxAdded
   joined-light k b =
-      omega (arith, ap (λ (x : MergedEdge). x .weight) (got k b), merged-light maxWeight (take i edges) low k (omega (arith, s .counted)), taken, ok .few)
+      omega (arith, ap (λ (x : MergedEdge). x .weight) (got k b), merged-light maxWeight (take i edges) (λ j l. fair-at j l .weight-low) k (omega (arith, s .counted)), taken, ok .few)
 
-  module _ (cell : ℕ) (own : cell ≡ cellOf edge) where
-    pub cell-low : cell < cellCount
-    cell-low = omega (arith, own, cell-in edge fair)
+  -- what finding a slot asks for
+  pub so-far-links : Links (take count next)
+  so-far-links = links before keys next heads (s .chained) count (s .counted) (omega (arith, few-so-far))
 
-    module _ (place : ℕ) (found : place ≡ placeIn (getD cells cell 0) count) where
-      place-cases : (P : Type 0) → (slotOf edge before ≡ 0 → place ≡ count → P)
-          → ((k : ℕ) → slotOf edge before ≡ suc k → place ≡ k → k < count → P) → P
-      place-cases P none some = go (slotOf edge before) refl
-        where
-          found-at : {x : ℕ} → slotOf edge before ≡ x → place ≡ placeIn x count
-          found-at {x} e = found ∙ ap (λ (v : ℕ). placeIn v count) (ap (λ (c : ℕ). getD cells c 0) own ∙ s .marked .slot edge fair ∙ e)
+  pub so-far-even : length (take count keys) ≡ length (take count next)
+  so-far-even =
+      length-take-le count keys (omega (arith, s .chained .keys-long, few-so-far)) ∙ sym (length-take-le count next (omega (arith, s .chained .next-long, few-so-far)))
 
-          go : (x : ℕ) → slotOf edge before ≡ x → P
-          go zero e = none e (found-at e ∙ place-none count)
-          go (suc k) e = some k e (found-at e ∙ place-some k count) (omega (arith, s .counted, slot-some edge before k e .inside))
+  pub so-far-start : getD heads (edge .from) 0 ≤ length (take count next)
+  so-far-start =
+      omega (arith, head-low before keys next heads (s .chained) (edge .from) (fair .from-in), s .counted, length-take-le count next (omega (arith, s .chained .next-long, few-so-far)))
 
-      pub place-low : place ≤ count
-      place-low = place-cases (place ≤ count) (λ n p. omega arith) (λ k n p l. omega arith)
+  module _ (key slot : ℕ) (own : key ≡ keyOf edge) (found : SlotFound (take count keys) (take count next) (getD heads (edge .from) 0) key slot) where
+    here-found : SlotFound (take count keys) (take count next) (getD heads (edge .from) 0) (keyOf edge) slot
+    here-found = subst (λ (x : ℕ). SlotFound (take count keys) (take count next) (getD heads (edge .from) 0) x slot) own found
 
-      pub merging-join : place < count → (new : MergedEdge) (list′ : List MergedEdge) (count′ : ℕ) → new ≡ joined edge (getD list place noMergedEdge)
-          → list′ ≡ set list place new → count′ ≡ count → Merging edges (i + 1) list′ count′ (set cells cell (place + 1))
-      merging-join l new list′ count′ a b c = rw (c, b, a) (place-cases _ (λ n p. absurd (omega arith)) some)
-        where
-          some : (k : ℕ) → slotOf edge before ≡ suc k → place ≡ k → k < count
-              → Merging edges (i + 1) (set list place (joined edge (getD list place noMergedEdge))) count (set cells cell (place + 1))
-          some k n p b =
-              let inside : k < length before = omega (arith, s .counted) in
-              let after = more-join (take i edges) edge k n in
-              let all = ap merged next in
-              record {
-                listed =
-                    rw (p, got k b, s .listed)
-                    (padded-set maxEdges noMergedEdge before k (joined edge (getD before k noMergedEdge)) inside
-                    ∙ ap (padded maxEdges noMergedEdge) (sym (all ∙ after .1)));
-                counted = s .counted ∙ sym (ap length (all ∙ after .1) ∙ length-set before k (joined edge (getD before k noMergedEdge)));
-                marked = rw (p, own, all, after .0) (marked-join before cells (s .marked) edge fair k n);
-              }
+    pub found-low : slot ≤ count
+    found-low = slot-low before keys next heads (s .chained) edge fair heads-low count slot (s .counted) (omega (arith, few-so-far)) here-found
 
-      pub merging-start : count ≤ place → (new : MergedEdge) (list′ : List MergedEdge) (count′ : ℕ) → new ≡ mergedAlone i edge → list′ ≡ set list count new
-          → count′ ≡ count + 1 → Merging edges (i + 1) list′ count′ (set cells cell (place + 1))
-      merging-start l new list′ count′ a b c = rw (c, b, a) (place-cases _ none (λ k n p b. absurd (omega arith)))
-        where
-          none : slotOf edge before ≡ 0 → place ≡ count → Merging edges (i + 1) (set list count (mergedAlone i edge)) (count + 1) (set cells cell (place + 1))
-          none n p =
-              let after : merged (take (i + 1) edges) ≡ before ++ mergedAlone i edge ∷ [] =
-              ap merged next ∙ more-start (take i edges) edge n ∙ ap (λ (k : ℕ). before ++ mergedAlone k edge ∷ []) taken in
-              record {
-                listed =
-                    rw (s .listed, s .counted)
-                    (padded-add maxEdges noMergedEdge before (mergedAlone i edge) (omega (arith, s .counted, few-so-far))
-                    ∙ ap (padded maxEdges noMergedEdge) (sym after));
-                counted = omega (arith, s .counted, ap length after, length-append before (mergedAlone i edge ∷ []));
-                marked = rw (p, own, after, s .counted) (marked-start before cells (s .marked) edge fair i n);
-              }
+    pub merging-join : (place : ℕ) → slot ≡ place + 1 → (new : MergedEdge) (list′ : List MergedEdge) (keys′ next′ heads′ : List ℕ) (count′ : ℕ)
+        → new ≡ joined edge (getD list place noMergedEdge) → list′ ≡ set list place new → keys′ ≡ keys → next′ ≡ next → heads′ ≡ heads → count′ ≡ count
+        → Merging edges (i + 1) list′ keys′ next′ heads′ count′
+    merging-join place p new list′ keys′ next′ heads′ count′ a b c d e f =
+        let inside : place < length before = omega (arith, found-low, s .counted) in
+        let joins-it = slot-joins before keys next heads (s .chained) edge fair heads-low count slot (s .counted) (omega (arith, few-so-far)) here-found place (p ∙ add-one place) in
+        let after = more-join (take i edges) edge place inside joins-it in
+        let all = ap merged following in
+        record {
+          listed =
+              rw (b, a, got place (omega (arith, found-low)), s .listed)
+              (padded-set maxEdges noMergedEdge before place (joined edge (getD before place noMergedEdge)) inside
+              ∙ ap (padded maxEdges noMergedEdge) (sym (all ∙ after .1)));
+          counted = f ∙ s .counted ∙ sym (ap length (all ∙ after .1) ∙ length-set before place (joined edge (getD before place noMergedEdge)));
+          chained = rw (c, d, e, all, after .0) (chained-join before keys next heads (s .chained) edge);
+        }
 
-pub merging-all : (edges : List TableEdge) (m i : ℕ) (list : List MergedEdge) (count : ℕ) (cells : List ℕ) → Merging edges i list count cells → i ≡ m
+    pub merging-start : slot ≤ 0 → (new : MergedEdge) (list′ : List MergedEdge) (keys′ next′ heads′ : List ℕ) (count′ : ℕ) → new ≡ mergedAlone i edge → list′ ≡ set list count new
+        → keys′ ≡ set keys count key → next′ ≡ set next count (getD heads (edge .from) 0) → heads′ ≡ set heads (edge .from) (count + 1) → count′ ≡ count + 1
+        → Merging edges (i + 1) list′ keys′ next′ heads′ count′
+    merging-start z new list′ keys′ next′ heads′ count′ a b c d e f =
+        let none = slot-nowhere before keys next heads (s .chained) edge fair heads-low count slot (s .counted) (omega (arith, few-so-far)) here-found (omega arith) in
+        let after : merged (take (i + 1) edges) ≡ before ++ mergedAlone i edge ∷ [] =
+        ap merged following ∙ more-start (take i edges) edge none ∙ ap (λ (k : ℕ). before ++ mergedAlone k edge ∷ []) taken in
+        record {
+          listed =
+              rw (b, a, s .listed, s .counted)
+              (padded-add maxEdges noMergedEdge before (mergedAlone i edge) (omega (arith, s .counted, few-so-far))
+              ∙ ap (padded maxEdges noMergedEdge) (sym after));
+          counted = omega (arith, f, s .counted, ap length after, length-append before (mergedAlone i edge ∷ []));
+          chained = rw (c, d, e, own, after, s .counted) (chained-start before keys next heads (s .chained) edge i fair (omega (arith, s .counted, few-so-far)));
+        }
+
+pub merging-all : (edges : List TableEdge) (m i : ℕ) (list : List MergedEdge) (keys next heads : List ℕ) (count : ℕ) → Merging edges i list keys next heads count → i ≡ m
     → _≡_ {A = MergedEdges} (record { count = count; list = list }) (mergedArray (take m edges))
-merging-all edges m i list count cells s e = rw (s .listed, s .counted, e)
+merging-all edges m i list keys next heads count s e = rw (s .listed, s .counted, e)

@@ -14,10 +14,9 @@ use Rattle.graph.specs.Directed.{ownEdge, noTableEdge, directed, directedBy}
 use Rattle.graph.proofs.DirectedLaws.{directed-length, directed-get}
 use Rattle.merging.specs.declared.MergedEdge.{MergedEdge}
 use Rattle.merging.specs.Merged.{noMergedEdge, alike, like, largestGap, merged, asEdge, drawnEdge, drawnEdges, joins}
-use Rattle.merging.specs.Merging.{slotOf}
 use Rattle.merging.proofs.AlikeLaws.{has-ends, alike-self}
 use Rattle.merging.proofs.MergedLaws.{none-not}
-use Rattle.merging.proofs.JoinLaws.{joinings, joinings-one, slot-none, slot-some}
+use Rattle.merging.proofs.JoinLaws.{joinings-one, Joining, joined-place}
 use Rattle.merging.proofs.FirstLaws.{merged-first}
 
 -- edges that are drawn as one have one flag
@@ -87,24 +86,12 @@ drawn-get flags [] k h = absurd (not-suc-le-zero h)
 drawn-get flags (e ∷ edges) zero h = refl
 drawn-get flags (e ∷ edges) (suc k) h = drawn-get flags edges k (le-of-suc-le-suc h)
 
--- the merged edge that an edge is drawn as
-pub record DrawnAs (edges : List TableEdge) (j : ℕ) : Type 0 where
-  pub place : ℕ
-  pub inside : place < length (merged edges)
-  pub joining : joins (getD edges j noTableEdge) (getD (merged edges) place noMergedEdge) ≡ true
-
-pub drawn-as : (edges : List TableEdge) (j : ℕ) → j < length edges → DrawnAs edges j
-drawn-as edges j h = go (slotOf edge (merged edges)) refl
-  where
-    edge : TableEdge
-    edge = getD edges j noTableEdge
-
-    one : joinings edge (merged edges) ≡ 1
-    one = joinings-one edge edges ∙ ap (λ (b : Bool). cond b 0 1) (none-not edge edges j h (alike-self edge))
-
-    go : (slot : ℕ) → slotOf edge (merged edges) ≡ slot → DrawnAs edges j
-    go zero e = absurd (omega (arith, one, slot-none edge (merged edges) e))
-    go (suc k) e = let s = slot-some edge (merged edges) k e in record { place = k; inside = s .inside; joining = s .joining }
+-- an edge is drawn as one with a merged edge
+pub drawn-as : (edges : List TableEdge) (j : ℕ) → j < length edges → Joining (getD edges j noTableEdge) (merged edges)
+drawn-as edges j h =
+    let edge = getD edges j noTableEdge in
+    joined-place edge (merged edges)
+    (omega (arith, joinings-one edge edges ∙ ap (λ (b : Bool). cond b 0 1) (none-not edge edges j h (alike-self edge))))
 
 module _ (flags : List Bool) (edges : List TableEdge) (a : Agreeing flags edges) where
   abbrev lines : List MergedEdge
@@ -189,7 +176,7 @@ module _ (flags : List Bool) (edges : List TableEdge) (a : Agreeing flags edges)
         inside : j < length edges
         inside = omega (arith, directed-length flags edges)
 
-        as-line : DrawnAs edges j
+        as-line : Joining (getD edges j noTableEdge) lines
         as-line = drawn-as edges j inside
 
         line : MergedEdge
@@ -208,5 +195,5 @@ module _ (flags : List Bool) (edges : List TableEdge) (a : Agreeing flags edges)
         small = omega (arith, whole, s .gap)
 
   -- the gap of an edge is no larger than that of what it is drawn as
-  pub gap-drawn : (j : ℕ) → j < length edges → (d : DrawnAs edges j) → getD edges j noTableEdge .gap ≤ getD lines (d .place) noMergedEdge .gap
+  pub gap-drawn : (j : ℕ) → j < length edges → (d : Joining (getD edges j noTableEdge) lines) → getD edges j noTableEdge .gap ≤ getD lines (d .place) noMergedEdge .gap
   gap-drawn j h d = first-like (d .place) j (d .inside) h (sym (joins-first (d .place) (getD edges j noTableEdge) (d .inside)) ∙ d .joining) .gap

@@ -1,8 +1,8 @@
 -- What the functions that merge edges ask for and answer.
 use mathlib.Core.Path.{_≡_}
 use mathlib.Core.Bool.{cond}
-use mathlib.Core.List.{List, [], _∷_}
-use Prim.Native.Nat.{ℕ, zero, suc, _+_, _*_, _-_, _≤_, _<_}
+use mathlib.Core.List.{List}
+use Prim.Native.Nat.{ℕ, zero, suc, _+_, _*_, _≤_, _<_}
 use lib.Dec.{eqb}
 use lib.ListN.{length, getD}
 use Rattle.graph.specs.declared.TableEdge.{TableEdge}
@@ -12,7 +12,7 @@ use Rattle.table.specs.Fair.{FairEdge}
 use Rattle.buffers.specs.Padded.{padded}
 use Rattle.merging.specs.declared.MergedEdge.{MergedEdge}
 use Rattle.merging.specs.declared.MergedEdges.{MergedEdges}
-use Rattle.merging.specs.Merged.{noMergedEdge, joins, merged}
+use Rattle.merging.specs.Merged.{noMergedEdge, merged}
 
 -- as many weights added as there can be
 abbrev pub maxAdded : ℕ
@@ -28,30 +28,44 @@ pub record Mergeable (m : ℕ) (edges : List TableEdge) : Type 0 where
 abbrev pub mergedArray : List TableEdge → MergedEdges
 mergedArray edges = record { count = length (merged edges); list = padded maxEdges noMergedEdge (merged edges) }
 
--- ---- cells
+-- ---- chains
 
--- the cell of an edge: one for each two ends and firmness
-unfoldable pub cellOf : TableEdge → ℕ
-cellOf e = cond (e .soft) ((e .from * maxSteps + e .to) * 2 + 1) ((e .from * maxSteps + e .to) * 2)
+-- a number for each two ends and firmness
+unfoldable pub keyOf : TableEdge → ℕ
+keyOf e = cond (e .soft) ((e .from * maxSteps + e .to) * 2 + 1) ((e .from * maxSteps + e .to) * 2)
 
-abbrev pub cellCount : ℕ
-cellCount = maxSteps * maxSteps * 2
+-- A chain goes by slots: a slot is one more than a place, or 0 where there is none. Each entry leads back.
+pub record Links (next : List ℕ) : Type 0 where
+  pub back : (k : ℕ) → k < length next → getD next k 0 ≤ k
 
--- a slot in a list with one entry more in front
-unfoldable pub laterSlot : ℕ → ℕ
-laterSlot zero = 0
-laterSlot (suc k) = suc (suc k)
+-- place k is on the chain from a slot on
+pub data Chain (next : List ℕ) (k : ℕ) : ℕ → Type 0 where
+  here : {slot : ℕ} → slot ≡ suc k → Chain next k slot
+  there : {slot : ℕ} (j : ℕ) → slot ≡ suc j → Chain next k (getD next j 0) → Chain next k slot
 
--- one more than the place of the merged edge that an edge joins, and 0 where it joins none
-unfoldable pub slotOf : TableEdge → List MergedEdge → ℕ
-slotOf e [] = 0
-slotOf e (old ∷ edges) = cond (joins e old) 1 (laterSlot (slotOf e edges))
+-- a slot of the chain with the key, or none has it
+pub record SlotFound (keys next : List ℕ) (start key r : ℕ) : Type 0 where
+  pub inside : r ≤ length next
+  pub hit : (k : ℕ) → r ≡ suc k → getD keys k 0 ≡ key
+  pub none : r ≡ 0 → (k : ℕ) → Chain next k start → getD keys k 0 ≡ key → ⊥
 
--- the place that a slot says, or the next
-unfoldable pub placeIn : ℕ → ℕ → ℕ
-placeIn slot count = cond (eqb slot 0) count (slot - 1)
+-- the slot of the last of the first k merged edges with a tail
+unfoldable pub lastSlot : ℕ → List MergedEdge → ℕ → ℕ
+lastSlot tail edges zero = 0
+lastSlot tail edges (suc k) = let before = lastSlot tail edges k in cond (eqb (getD edges k noMergedEdge .from) tail) (suc k) before
 
--- the cell of every edge between steps has its slot
-pub record Marked (edges : List MergedEdge) (cells : List ℕ) : Type 0 where
-  pub long : length cells ≡ cellCount
-  pub slot : (e : TableEdge) → FairEdge maxSteps (ownEdge e) → getD cells (cellOf e) 0 ≡ slotOf e edges
+-- the key of a merged edge: that of an edge with its ends and firmness
+abbrev pub asTable : MergedEdge → TableEdge
+asTable e = record { from = e .from; to = e .to; gap = e .gap; weight = e .weight; soft = e .soft }
+
+abbrev pub keyAt : MergedEdge → ℕ
+keyAt e = keyOf (asTable e)
+
+-- arrays in which the merged edges with one tail are a chain
+pub record Chained (edges : List MergedEdge) (keys next heads : List ℕ) : Type 0 where
+  pub keys-long : length keys ≡ maxEdges
+  pub next-long : length next ≡ maxEdges
+  pub heads-long : length heads ≡ maxSteps
+  pub key-at : (k : ℕ) → k < length edges → getD keys k 0 ≡ keyAt (getD edges k noMergedEdge)
+  pub next-at : (k : ℕ) → k < length edges → getD next k 0 ≡ lastSlot (getD edges k noMergedEdge .from) edges k
+  pub head-at : (v : ℕ) → v < maxSteps → getD heads v 0 ≡ lastSlot v edges (length edges)

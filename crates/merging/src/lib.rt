@@ -1,14 +1,14 @@
 // Repeated edges: those with equal ends and equal firmness are drawn as one line, here a merged edge (the `lines` of other crates are those
 // of a listing). Rows are found without it.
-mod places;
+mod slots;
 
-use crate::places::blank_cells;
-use crate::places::cell_of;
-use crate::places::place_in;
+use crate::slots::find_slot;
+use crate::slots::key_of;
 use graph::Edge;
 use graph::TableEdge;
 use graph::direct;
 use table::limits::MAX_EDGES;
+use table::limits::MAX_STEPS;
 ghost use mathlib.Core.Path.{_≡_};
 ghost use Prim.Native.Nat.{_+_, _≤_, _<_, max};
 ghost use lib.ListN.{take, replicate};
@@ -38,20 +38,26 @@ pub fn merge_edges(edges: [TableEdge; MAX_EDGES], m: usize) -> MergedEdges
     requires { ⌜ Mergeable m edges ⌝ }
     ensures { λ r. ⌜ r ≡ mergedArray (take m edges) ⌝ }
 {
-    let mut cells = blank_cells();
     let mut list = blank_list();
+    let mut keys = [0usize; MAX_EDGES];
+    let mut next = [0usize; MAX_EDGES];
+    let mut heads = [0usize; MAX_STEPS];
     let mut count = 0;
     for i in 0..m {
         let e = edges[i];
-        let cell = cell_of(e);
-        let place = place_in(cells[cell], count);
-        cells[cell] = (place + 1) as u16;
-        if place < count {
+        let from = e.from as usize;
+        let key = key_of(e);
+        let slot = find_slot(&keys[..count], &next[..count], heads[from], key);
+        if 0 < slot {
+            let place = slot - 1;
             let old = list[place];
             list[place] = join_edge(old, e);
         } else {
             list[count] = start_edge(e, i);
+            keys[count] = key;
+            next[count] = heads[from];
             count += 1;
+            heads[from] = count;
         }
     }
     MergedEdges {

@@ -1,101 +1,155 @@
 -- The first i edges are merged.
 use mathlib.Core.Logic.{⊎-elim}
+use mathlib.Core.Path.{sym}
 use Prim.Native.Nat.{_-_, _≤_, _<_}
 use native.Mathlib.Omega.{arith}
-use Rattle.table.specs.Limits.{maxEdges}
-use Rattle.merging.specs.Merging.{cellCount}
-use Rattle.merging.proofs.MergingLaws.{Merging, merging-none, few-so-far, cell-low, place-low, joined-light, merging-join, merging-start, merging-all}
+use borrow.Author.Needs.{needs}
+use lib.ListN.{length, getD}
+use lib.Seq.{length-take-le}
+use Rattle.graph.specs.Directed.{noTableEdge}
+use Rattle.table.specs.Limits.{maxSteps, maxEdges}
+use Rattle.merging.proofs.MergingLaws.{Merging, merging-none, few-so-far, joined-light, so-far-links, so-far-even, so-far-start, found-low, merging-join, merging-start, merging-all}
 use Rattle.merging.proofs.merge_edges.Statement.{statement}
 use Rattle.merging.proofs.merge_edges.Tie as tie
 
 abbrev Inv-loop : tie.InvT-loop
-Inv-loop m edges cells₀ list₀ count₀ i₀ cells list count i = Merging edges i list count cells × (i ≤ m)
+Inv-loop m edges list₀ keys₀ next₀ heads₀ count₀ i₀ list keys next heads count i = Merging edges i list keys next heads count × (i ≤ m)
 
 abbrev μ-loop : tie.MeasureT-loop
-μ-loop m edges cells₀ list₀ count₀ i₀ cells list count i = m - i
+μ-loop m edges list₀ keys₀ next₀ heads₀ count₀ i₀ list keys next heads count i = m - i
 
--- at an edge: there is room for a merged edge more, and the cell and the place of the edge are inside
-room-here : (c : tie.After-e Inv-loop μ-loop) → c .before .before .loop .count < maxEdges
-room-here c = let l = c .before .before in few-so-far _ _ (l .before .before .before .pre) _ (c .before .loop-test .taken) _ _ _ (l .loop .inv .0)
+-- at an edge: its tail is a step, and there is room for a merged edge more
+abbrev K : Type 0
+K = tie.After-struct-known Inv-loop μ-loop
 
-cell-here : (c : tie.After-cell-of Inv-loop μ-loop) → c .cell-of .result < cellCount
-cell-here c = let l = c .before .before .before in cell-low _ _ (l .before .before .before .pre) _ (c .before .before .loop-test .taken) _ _ _ (l .loop .inv .0) _ (c .cell-of .ensures)
+tail-here : (c : K) → c .before .before .before .loop .i < c .before .before .before .before .before .args .m
+tail-here c = c .before .before .loop-test .taken
 
-place-here : (c : tie.After-place-in Inv-loop μ-loop) → c .place-in .result < maxEdges
-place-here c =
-    let l = c .before .before .before .before in
-    let low = place-low _ _ (l .before .before .before .pre) _ (c .before .before .before .loop-test .taken) _ _ _ (l .loop .inv .0) _ (c .before .cell-of .ensures) _ (c .place-in .ensures) in
-    let room = room-here (c .before .before) in omega (arith, low, room)
+room-here : (c : K) → c .before .before .before .loop .count < maxEdges
+room-here c = let l = c .before .before .before in few-so-far _ _ (l .before .before .pre) _ (tail-here c) _ _ _ _ _ (l .loop .inv .0)
 
-blank-cells-requires : tie.Need-blank-cells-requires Inv-loop μ-loop
-blank-cells-requires c κs = tt
+from-here : (c : K) → getD (c .before .before .before .before .before .args .t1) (c .before .before .before .loop .i) noTableEdge .from < maxSteps
+from-here c = c .before .before .before .before .before .pre .each _ (tail-here c) .from-in
+
+keys-here : (c : K) → c .before .before .before .loop .count ≤ length (c .before .before .before .loop .keys)
+keys-here c = let l = c .before .before .before in let b = room-here c in omega (arith, b, l .loop .inv .0 .chained .keys-long)
+
+next-here : (c : K) → c .before .before .before .loop .count ≤ length (c .before .before .before .loop .next)
+next-here c = let l = c .before .before .before in let b = room-here c in omega (arith, b, l .loop .inv .0 .chained .next-long)
+
+-- a slot that was found is one of those so far
+low-here : (c : tie.After-find-slot Inv-loop μ-loop) → c .find-slot .result ≤ c .before .before .before .before .before .before .before .loop .count
+low-here c =
+    let k = c .before .before .before .before in
+    let l = k .before .before .before in
+    found-low _ _ (l .before .before .pre) _ (tail-here k) _ _ _ _ _ (l .loop .inv .0) _ _ (c .before .before .before .key-of .ensures) (c .find-slot .ensures)
+
+place-here : (c : tie.After-find-slot Inv-loop μ-loop) → 0 < c .find-slot .result → c .find-slot .result - 1 < maxEdges
+place-here c h = let b = room-here (c .before .before .before .before) in let l = low-here c in omega (arith, b, l)
 
 blank-list-requires : tie.Need-blank-list-requires Inv-loop μ-loop
 blank-list-requires c κs = tt
 
 loop-holds : tie.Need-loop-holds Inv-loop μ-loop
-loop-holds c = (rw (c .blank-list .ensures, c .before .blank-cells .ensures) (merging-none _), omega arith)
+loop-holds c = (rw (c .blank-list .ensures) (merging-none _), omega arith)
 
 mul-e : tie.Need-mul-e Inv-loop μ-loop
 mul-e c = omega arith
 
 array-copy-out-e : tie.Need-array-copy-out-e Inv-loop μ-loop
-array-copy-out-e c = let s = c .before .before .before .before in omega (arith, s .pre .few)
+array-copy-out-e c = let s = c .before .before .before in omega (arith, s .pre .few)
 
-cell-of-requires : tie.Need-cell-of-requires Inv-loop μ-loop
-cell-of-requires c κs = let l = c .before .before in l .before .before .before .pre .each _ (c .before .loop-test .taken)
+cast-from : tie.Need-cast-from Inv-loop μ-loop
+cast-from c = search needs
 
-mul-place-in : tie.Need-mul-place-in Inv-loop μ-loop
-mul-place-in c = let b = cell-here c in omega (arith, b)
+key-of-requires : tie.Need-key-of-requires Inv-loop μ-loop
+key-of-requires c κs = c .before .before .before .before .before .pre .each _ (tail-here c)
 
-array-read-place-in : tie.Need-array-read-place-in Inv-loop μ-loop
-array-read-place-in c = cell-here c
+array-share-prefix-keys : tie.Need-array-share-prefix-keys Inv-loop μ-loop
+array-share-prefix-keys c = keys-here (c .before)
 
-place-in-requires : tie.Need-place-in-requires Inv-loop μ-loop
-place-in-requires c κs = tt
+slice-aggregate-find-slot : tie.Need-slice-aggregate-find-slot Inv-loop μ-loop
+slice-aggregate-find-slot c = sym (length-take-le _ _ (keys-here (c .before .before)))
 
-add-cells : tie.Need-add-cells Inv-loop μ-loop
-add-cells c = let b = place-here c in omega (arith, b)
+array-share-prefix-next : tie.Need-array-share-prefix-next Inv-loop μ-loop
+array-share-prefix-next c = next-here (c .before .before)
 
-cast-cells : tie.Need-cast-cells Inv-loop μ-loop
-cast-cells c = let b = place-here c in omega (arith, b)
+slice-aggregate-find-slot-2 : tie.Need-slice-aggregate-find-slot-2 Inv-loop μ-loop
+slice-aggregate-find-slot-2 c = sym (length-take-le _ _ (next-here (c .before .before .before)))
 
-mul-cells : tie.Need-mul-cells Inv-loop μ-loop
-mul-cells c = let b = cell-here (c .before) in omega (arith, b)
+mul-find-slot : tie.Need-mul-find-slot Inv-loop μ-loop
+mul-find-slot c = let b = from-here (c .before .before .before) in omega (arith, b)
 
-array-write-cells : tie.Need-array-write-cells Inv-loop μ-loop
-array-write-cells c = cell-here (c .before)
+array-read-find-slot : tie.Need-array-read-find-slot Inv-loop μ-loop
+array-read-find-slot c = from-here (c .before .before .before)
+
+find-slot-requires : tie.Need-find-slot-requires Inv-loop μ-loop
+find-slot-requires c κs =
+    let k = c .before .before .before in
+    let l = k .before .before .before in (
+      (so-far-links _ _ (l .before .before .pre) _ (tail-here k) _ _ _ _ _ (l .loop .inv .0), so-far-even _ _ (l .before .before .pre) _ (tail-here k) _ _ _ _ _ (l .loop .inv .0)),
+      so-far-start _ _ (l .before .before .pre) _ (tail-here k) _ _ _ _ _ (l .loop .inv .0),
+    )
+
+sub-place : tie.Need-sub-place Inv-loop μ-loop
+sub-place c = omega (arith, c .if1 .taken)
 
 mul-old : tie.Need-mul-old Inv-loop μ-loop
-mul-old c = let b = place-here (c .before) in omega (arith, b)
+mul-old c = let b = place-here (c .before) (c .if1 .taken) in omega (arith, b)
 
 array-copy-out-old : tie.Need-array-copy-out-old Inv-loop μ-loop
-array-copy-out-old c = let b = place-here (c .before) in omega (arith, b)
+array-copy-out-old c = place-here (c .before) (c .if1 .taken)
 
 join-edge-requires : tie.Need-join-edge-requires Inv-loop μ-loop
 join-edge-requires c κs =
-    let l = c .before .before .before .before .before .before in
-    joined-light _ _ (l .before .before .before .pre) _ (c .before .before .before .before .before .loop-test .taken) _ _ _ (l .loop .inv .0) _ (c .before .if1 .taken)
+    let f = c .before .before in
+    let k = f .before .before .before .before in
+    let l = k .before .before .before in
+    joined-light _ _ (l .before .before .pre) _ (tail-here k) _ _ _ _ _ (l .loop .inv .0) _ (omega (arith, low-here f, c .before .if1 .taken))
 
 mul-list : tie.Need-mul-list Inv-loop μ-loop
-mul-list c = let b = place-here (c .before .before .before) in omega (arith, b)
+mul-list c = let b = place-here (c .before .before .before) (c .before .before .if1 .taken) in omega (arith, b)
 
 array-set-from-list : tie.Need-array-set-from-list Inv-loop μ-loop
-array-set-from-list c = let b = place-here (c .before .before .before) in omega (arith, b)
+array-set-from-list c = place-here (c .before .before .before) (c .before .before .if1 .taken)
 
 start-edge-requires : tie.Need-start-edge-requires Inv-loop μ-loop
 start-edge-requires c κs =
-    let s = c .before .before .before .before .before .before .before .before in
-    let b = room-here (c .before .before .before) in omega (arith, s .pre .few, b)
+    let k = c .before .before .before .before .before in
+    let b = room-here k in omega (arith, k .before .before .before .before .before .pre .few, tail-here k, b)
 
 mul-list-2 : tie.Need-mul-list-2 Inv-loop μ-loop
-mul-list-2 c = let b = room-here (c .before .before .before .before) in omega (arith, b)
+mul-list-2 c = let b = room-here (c .before .before .before .before .before .before) in omega (arith, b)
 
 array-set-from-list-2 : tie.Need-array-set-from-list-2 Inv-loop μ-loop
-array-set-from-list-2 c = room-here (c .before .before .before .before)
+array-set-from-list-2 c = room-here (c .before .before .before .before .before .before)
+
+mul-keys : tie.Need-mul-keys Inv-loop μ-loop
+mul-keys c = let b = room-here (c .before .before .before .before .before .before) in omega (arith, b)
+
+array-write-keys : tie.Need-array-write-keys Inv-loop μ-loop
+array-write-keys c = room-here (c .before .before .before .before .before .before)
+
+mul-next : tie.Need-mul-next Inv-loop μ-loop
+mul-next c = let b = from-here (c .before .before .before .before .before .before) in omega (arith, b)
+
+array-read-next : tie.Need-array-read-next Inv-loop μ-loop
+array-read-next c = from-here (c .before .before .before .before .before .before)
+
+mul-next-2 : tie.Need-mul-next-2 Inv-loop μ-loop
+mul-next-2 c = let b = room-here (c .before .before .before .before .before .before) in omega (arith, b)
+
+array-write-next : tie.Need-array-write-next Inv-loop μ-loop
+array-write-next c = room-here (c .before .before .before .before .before .before)
 
 add-count : tie.Need-add-count Inv-loop μ-loop
-add-count c = let b = room-here (c .before .before .before .before) in omega (arith, b)
+add-count c = let b = room-here (c .before .before .before .before .before .before) in omega (arith, b)
+
+mul-heads : tie.Need-mul-heads Inv-loop μ-loop
+mul-heads c = let b = from-here (c .before .before .before .before .before .before) in omega (arith, b)
+
+array-write-heads : tie.Need-array-write-heads Inv-loop μ-loop
+array-write-heads c = from-here (c .before .before .before .before .before .before)
 
 add-i : tie.Need-add-i Inv-loop μ-loop
 add-i c = omega arith
@@ -105,14 +159,19 @@ loop-less c = omega arith
 
 loop-again : tie.Need-loop-again Inv-loop μ-loop
 loop-again c =
-    let at-cell = c .before .before in
-    let at-loop = at-cell .before .before .before in
-    let turn = merging-join _ _ (at-loop .before .before .before .pre) _ (at-cell .before .before .loop-test .taken) _ _ _ (at-loop .loop .inv .0) _ (at-cell .cell-of .ensures) _ (c .before .place-in .ensures) in
-    let first = merging-start _ _ (at-loop .before .before .before .pre) _ (at-cell .before .before .loop-test .taken) _ _ _ (at-loop .loop .inv .0) _ (at-cell .cell-of .ensures) _ (c .before .place-in .ensures) in
-    (⊎-elim (λ w. turn (w .0 .taken) _ _ _ (w .2 .ensures) (w .3) (w .4)) (λ w. first (w .0 .left) _ _ _ (w .1 .ensures) (w .2) (w .3)) (c .if1 .came), omega arith)
+    let k = c .before .before .before .before .before in
+    let l = k .before .before .before in
+    let again = merging-join _ _ (l .before .before .pre) _ (tail-here k) _ _ _ _ _ (l .loop .inv .0) _ _ (c .before .before .before .before .key-of .ensures) (c .before .find-slot .ensures) in
+    let first = merging-start _ _ (l .before .before .pre) _ (tail-here k) _ _ _ _ _ (l .loop .inv .0) _ _ (c .before .before .before .before .key-of .ensures) (c .before .find-slot .ensures) in (
+      ⊎-elim
+          (λ w. again _ (omega (arith, w .0 .taken)) _ _ _ _ _ _ (w .2 .ensures) (w .3) (w .4) (w .5) (w .6) (w .7))
+          (λ w. first (w .0 .left) _ _ _ _ _ _ (w .1 .ensures) (w .2) (w .3) (w .4) (w .5) (w .6))
+          (c .if1 .came),
+      omega arith,
+    )
 
 returns : tie.Need-returns Inv-loop μ-loop
-returns c = let s = c .before .before .before .before in merging-all (s .args .t1) (s .args .m) _ _ _ _ (c .before .loop .inv .0) (omega arith)
+returns c = let s = c .before .before .before in merging-all (s .args .t1) (s .args .m) _ _ _ _ _ _ (c .before .loop .inv .0) (omega arith)
 
 pub merge-edges-spec : {M : Type 1} → statement M
 merge-edges-spec =
@@ -120,19 +179,20 @@ merge-edges-spec =
     (tie.spec
     Inv-loop
     μ-loop
-    blank-cells-requires
     blank-list-requires
     loop-holds
     mul-e
     array-copy-out-e
-    cell-of-requires
-    mul-place-in
-    array-read-place-in
-    place-in-requires
-    add-cells
-    cast-cells
-    mul-cells
-    array-write-cells
+    cast-from
+    key-of-requires
+    array-share-prefix-keys
+    slice-aggregate-find-slot
+    array-share-prefix-next
+    slice-aggregate-find-slot-2
+    mul-find-slot
+    array-read-find-slot
+    find-slot-requires
+    sub-place
     mul-old
     array-copy-out-old
     join-edge-requires
@@ -141,7 +201,15 @@ merge-edges-spec =
     start-edge-requires
     mul-list-2
     array-set-from-list-2
+    mul-keys
+    array-write-keys
+    mul-next
+    array-read-next
+    mul-next-2
+    array-write-next
     add-count
+    mul-heads
+    array-write-heads
     add-i
     loop-less
     loop-again

@@ -1,9 +1,9 @@
 -- Each answer by the firmness.
 use mathlib.Core.Path.{refl}
 use borrow.Author.Needs.{needs}
-use Rattle.merging.specs.Merging.{cellOf}
-use Rattle.merging.proofs.places.cell_of.Statement.{statement}
-use Rattle.merging.proofs.places.cell_of.Tie as tie
+use Rattle.merging.specs.Merging.{keyOf}
+use Rattle.merging.proofs.slots.key_of.Statement.{statement}
+use Rattle.merging.proofs.slots.key_of.Tie as tie
 
 cast-pair : tie.Need-cast-pair
 cast-pair c = search needs
@@ -24,14 +24,14 @@ add-result : tie.Need-add-result
 add-result c = search needs
 
 returns : tie.Need-returns
-unfolding cellOf
+unfolding keyOf
 returns c = simp (c .if1 .taken) refl
 
 returns-2 : tie.Need-returns-2
-unfolding cellOf
+unfolding keyOf
 returns-2 c = simp (c .if1 .left) refl
 
-pub cell-of-spec : {M : Type 1} → statement M
-cell-of-spec =
+pub key-of-spec : {M : Type 1} → statement M
+key-of-spec =
     tie.close
     (tie.spec cast-pair mul-pair cast-pair-2 add-pair mul-pair-2 add-result returns returns-2)
