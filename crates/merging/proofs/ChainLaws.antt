@@ -1,5 +1,5 @@
--- Merged edges with one tail as a chain: it starts with none, one edge more is put in front, and what an edge joins is on the chain of its
--- tail.
+-- Merged edges with one sum of their ends as a chain: it starts with none, one edge more is put in front, and what an edge joins is on the
+-- chain of its sum.
 use mathlib.Core.Path.{_≡_, refl, sym, ap, _∙_, subst}
 use mathlib.Core.Bool.{Bool, true, false, cond}
 use mathlib.Core.List.{List, [], _∷_, _++_, map}
@@ -18,7 +18,7 @@ use Rattle.table.specs.Fair.{FairEdge}
 use Rattle.buffers.proofs.ListLaws.{hit, miss, zero-at}
 use Rattle.merging.specs.declared.MergedEdge.{MergedEdge}
 use Rattle.merging.specs.Merged.{noMergedEdge, alike, joins, joined, mergedAlone}
-use Rattle.merging.specs.Merging.{keyOf, Links, Chain, here, there, SlotFound, lastSlot, asTable, keyAt, Chained}
+use Rattle.merging.specs.Merging.{keyOf, Links, Chain, here, there, SlotFound, sumOf, sumCount, lastSlot, asTable, keyAt, Chained}
 use Rattle.merging.proofs.AlikeLaws.{Ended, has-ends, ends-has}
 use Rattle.merging.proofs.MergedLaws.{widened}
 use Rattle.merging.proofs.JoinLaws.{joinings, Joining, joined-place}
@@ -41,71 +41,71 @@ key-same : (d e : TableEdge) → alike d e ≡ true → keyOf d ≡ keyOf e
 unfolding keyOf
 key-same d e h = let s = has-ends (d .from) (d .to) (d .soft) e h in rw (s .tail, s .head, s .firm)
 
--- ---- the last with a tail
+-- ---- the last with a sum
 
-pub last-back : (tail : ℕ) (edges : List MergedEdge) (k : ℕ) → lastSlot tail edges k ≤ k
+pub last-back : (sum : ℕ) (edges : List MergedEdge) (k : ℕ) → lastSlot sum edges k ≤ k
 unfolding lastSlot
-last-back tail edges zero = omega arith
-last-back tail edges (suc k) = go (eqb (getD edges k noMergedEdge .from) tail) (last-back tail edges k)
+last-back sum edges zero = omega arith
+last-back sum edges (suc k) = go (eqb (sumOf (getD edges k noMergedEdge)) sum) (last-back sum edges k)
   where
-    go : (b : Bool) → lastSlot tail edges k ≤ k → cond b (suc k) (lastSlot tail edges k) ≤ suc k
+    go : (b : Bool) → lastSlot sum edges k ≤ k → cond b (suc k) (lastSlot sum edges k) ≤ suc k
     go true h = omega arith
     go false h = omega arith
 
-last-step : (tail : ℕ) (edges : List MergedEdge) (k : ℕ) → lastSlot tail edges (suc k) ≡ cond (eqb (getD edges k noMergedEdge .from) tail) (suc k) (lastSlot tail edges k)
+last-step : (sum : ℕ) (edges : List MergedEdge) (k : ℕ) → lastSlot sum edges (suc k) ≡ cond (eqb (sumOf (getD edges k noMergedEdge)) sum) (suc k) (lastSlot sum edges k)
 unfolding lastSlot
-last-step tail edges k = refl
+last-step sum edges k = refl
 
--- it goes by the tails of the first k
-last-same : (tail : ℕ) (edges others : List MergedEdge) (k : ℕ) → ((j : ℕ) → j < k → getD edges j noMergedEdge .from ≡ getD others j noMergedEdge .from)
-    → lastSlot tail edges k ≡ lastSlot tail others k
+-- it goes by the sums of the first k
+last-same : (sum : ℕ) (edges others : List MergedEdge) (k : ℕ) → ((j : ℕ) → j < k → sumOf (getD edges j noMergedEdge) ≡ sumOf (getD others j noMergedEdge))
+    → lastSlot sum edges k ≡ lastSlot sum others k
 unfolding lastSlot
-last-same tail edges others zero h = refl
-last-same tail edges others (suc k) h = rw (h k (omega arith), last-same tail edges others k (λ j l. h j (omega arith)))
+last-same sum edges others zero h = refl
+last-same sum edges others (suc k) h = rw (h k (omega arith), last-same sum edges others k (λ j l. h j (omega arith)))
 
--- all of the first k with the tail are on the chain from it
-last-chain : (tail : ℕ) (edges : List MergedEdge) (next : List ℕ) (b : ℕ) → ((k : ℕ) → k < b → getD next k 0 ≡ lastSlot (getD edges k noMergedEdge .from) edges k)
-    → (k : ℕ) → k < b → getD edges k noMergedEdge .from ≡ tail → Chain next k (lastSlot tail edges b)
+-- all of the first k with the sum are on the chain from it
+last-chain : (sum : ℕ) (edges : List MergedEdge) (next : List ℕ) (b : ℕ) → ((k : ℕ) → k < b → getD next k 0 ≡ lastSlot (sumOf (getD edges k noMergedEdge)) edges k)
+    → (k : ℕ) → k < b → sumOf (getD edges k noMergedEdge) ≡ sum → Chain next k (lastSlot sum edges b)
 unfolding lastSlot
-last-chain tail edges next zero h k l e = absurd (not-suc-le-zero l)
-last-chain tail edges next (suc b) h k l e =
-    go (last-chain tail edges next b (λ j p. h j (omega arith)) k) (eqb (getD edges b noMergedEdge .from) tail) refl (ltb k b) refl
+last-chain sum edges next zero h k l e = absurd (not-suc-le-zero l)
+last-chain sum edges next (suc b) h k l e =
+    go (last-chain sum edges next b (λ j p. h j (omega arith)) k) (eqb (sumOf (getD edges b noMergedEdge)) sum) refl (ltb k b) refl
   where
-    go : (k < b → getD edges k noMergedEdge .from ≡ tail → Chain next k (lastSlot tail edges b))
-        → (x : Bool) → eqb (getD edges b noMergedEdge .from) tail ≡ x → (y : Bool) → ltb k b ≡ y → Chain next k (cond x (suc b) (lastSlot tail edges b))
+    go : (k < b → sumOf (getD edges k noMergedEdge) ≡ sum → Chain next k (lastSlot sum edges b))
+        → (x : Bool) → eqb (sumOf (getD edges b noMergedEdge)) sum ≡ x → (y : Bool) → ltb k b ≡ y → Chain next k (cond x (suc b) (lastSlot sum edges b))
     go rest true p true q =
         there b refl
-        (subst (Chain next k) (sym (h b (omega arith) ∙ ap (λ (t : ℕ). lastSlot t edges b) (eqb-true (getD edges b noMergedEdge .from) tail p))) (rest (ltb-true k b q) e))
+        (subst (Chain next k) (sym (h b (omega arith) ∙ ap (λ (t : ℕ). lastSlot t edges b) (eqb-true (sumOf (getD edges b noMergedEdge)) sum p))) (rest (ltb-true k b q) e))
     go rest true p false q = here {slot = suc b} (omega (arith, ltb-false k b q))
     go rest false p true q = rest (ltb-true k b q) e
     go rest false p false q =
         let same : b ≡ k = omega (arith, ltb-false k b q) in
-        absurd (eqb-false (getD edges b noMergedEdge .from) tail p (ap (λ (i : ℕ). getD edges i noMergedEdge .from) same ∙ e))
+        absurd (eqb-false (sumOf (getD edges b noMergedEdge)) sum p (ap (λ (i : ℕ). sumOf (getD edges i noMergedEdge)) same ∙ e))
 
 -- ---- chains in arrays
 
-pub chained-none : Chained [] (replicate maxEdges 0) (replicate maxEdges 0) (replicate maxSteps 0)
+pub chained-none : Chained [] (replicate maxEdges 0) (replicate maxEdges 0) (replicate sumCount 0)
 unfolding lastSlot
 chained-none =
     record {
       keys-long = length-replicate {A = ℕ} maxEdges 0;
       next-long = length-replicate {A = ℕ} maxEdges 0;
-      heads-long = length-replicate {A = ℕ} maxSteps 0;
+      heads-long = length-replicate {A = ℕ} sumCount 0;
       key-at = λ k h. absurd (not-suc-le-zero h);
       next-at = λ k h. absurd (not-suc-le-zero h);
-      head-at = λ v h. zero-at maxSteps v;
+      head-at = λ v h. zero-at sumCount v;
     }
 
--- widening leaves tails and keys
+-- widening leaves sums and keys
 widened-at : (d : TableEdge) (edges : List MergedEdge) (k : ℕ) → k < length edges → getD (map (widened d) edges) k noMergedEdge ≡ widened d (getD edges k noMergedEdge)
 widened-at d [] k h = absurd (not-suc-le-zero h)
 widened-at d (old ∷ edges) zero h = refl
 widened-at d (old ∷ edges) (suc k) h = widened-at d edges k (le-of-suc-le-suc h)
 
-widened-from : (d : TableEdge) (old : MergedEdge) → widened d old .from ≡ old .from
-widened-from d old = go (joins d old)
+widened-sum : (d : TableEdge) (old : MergedEdge) → sumOf (widened d old) ≡ sumOf old
+widened-sum d old = go (joins d old)
   where
-    go : (b : Bool) → cond b (joined d old) old .from ≡ old .from
+    go : (b : Bool) → sumOf (cond b (joined d old) old) ≡ sumOf old
     go true = refl
     go false = refl
 
@@ -125,17 +125,17 @@ module _ (edges : List MergedEdge) (keys next heads : List ℕ) (c : Chained edg
         next-long = c .next-long;
         heads-long = c .heads-long;
         key-at = λ k h. c .key-at k (inside k h) ∙ sym (ap keyAt (widened-at d edges k (inside k h)) ∙ widened-key d (getD edges k noMergedEdge));
-        next-at = λ k h. c .next-at k (inside k h) ∙ last-same (getD edges k noMergedEdge .from) edges (map (widened d) edges) k (λ j l. sym (tail j (omega (arith, inside k h))))
-            ∙ ap (λ (t : ℕ). lastSlot t (map (widened d) edges) k) (sym (tail k (inside k h)));
-        head-at = λ v h. c .head-at v h ∙ last-same v edges (map (widened d) edges) (length edges) (λ j l. sym (tail j l))
+        next-at = λ k h. c .next-at k (inside k h) ∙ last-same (sumOf (getD edges k noMergedEdge)) edges (map (widened d) edges) k (λ j l. sym (sums j (omega (arith, inside k h))))
+            ∙ ap (λ (t : ℕ). lastSlot t (map (widened d) edges) k) (sym (sums k (inside k h)));
+        head-at = λ v h. c .head-at v h ∙ last-same v edges (map (widened d) edges) (length edges) (λ j l. sym (sums j l))
             ∙ ap (lastSlot v (map (widened d) edges)) (sym (length-map edges (widened d)));
       }
     where
       inside : (k : ℕ) → k < length (map (widened d) edges) → k < length edges
       inside k h = omega (arith, length-map edges (widened d))
 
-      tail : (k : ℕ) → k < length edges → getD (map (widened d) edges) k noMergedEdge .from ≡ getD edges k noMergedEdge .from
-      tail k h = ap (λ (x : MergedEdge). x .from) (widened-at d edges k h) ∙ widened-from d (getD edges k noMergedEdge)
+      sums : (k : ℕ) → k < length edges → sumOf (getD (map (widened d) edges) k noMergedEdge) ≡ sumOf (getD edges k noMergedEdge)
+      sums k h = ap sumOf (widened-at d edges k h) ∙ widened-sum d (getD edges k noMergedEdge)
 
   -- one edge more stands in front of its chain
   module _ (e : TableEdge) (i : ℕ) (f : FairEdge maxSteps (ownEdge e)) (room : length edges < maxEdges) where
@@ -154,21 +154,21 @@ module _ (edges : List MergedEdge) (keys next heads : List ℕ) (c : Chained edg
     new-at : (k : ℕ) → k ≡ length edges → getD more k noMergedEdge ≡ new
     new-at k h = ap (λ (j : ℕ). getD more j noMergedEdge) h ∙ getD-append-seam edges new [] noMergedEdge
 
-    last-old : (tail k : ℕ) → k ≤ length edges → lastSlot tail more k ≡ lastSlot tail edges k
-    last-old tail k h = last-same tail more edges k (λ j l. ap (λ (x : MergedEdge). x .from) (old-at j (omega arith)))
+    last-old : (sum k : ℕ) → k ≤ length edges → lastSlot sum more k ≡ lastSlot sum edges k
+    last-old sum k h = last-same sum more edges k (λ j l. ap sumOf (old-at j (omega arith)))
 
     key-new : keyAt new ≡ keyOf e
     key-new = refl
 
-    pub chained-start : Chained more (set keys (length edges) (keyOf e)) (set next (length edges) (getD heads (e .from) 0)) (set heads (e .from) (length edges + 1))
+    pub chained-start : Chained more (set keys (length edges) (keyOf e)) (set next (length edges) (getD heads (e .from + e .to) 0)) (set heads (e .from + e .to) (length edges + 1))
     chained-start =
         record {
           keys-long = length-set keys (length edges) (keyOf e) ∙ c .keys-long;
-          next-long = length-set next (length edges) (getD heads (e .from) 0) ∙ c .next-long;
-          heads-long = length-set heads (e .from) (length edges + 1) ∙ c .heads-long;
+          next-long = length-set next (length edges) (getD heads (e .from + e .to) 0) ∙ c .next-long;
+          heads-long = length-set heads (e .from + e .to) (length edges + 1) ∙ c .heads-long;
           key-at = λ k h. key k h (ltb k (length edges)) refl;
           next-at = λ k h. next-is k h (ltb k (length edges)) refl;
-          head-at = λ v h. head v h (eqb (e .from) v) refl;
+          head-at = λ v h. head v h (eqb (e .from + e .to) v) refl;
         }
       where
         key : (k : ℕ) → k < length more → (b : Bool) → ltb k (length edges) ≡ b → getD (set keys (length edges) (keyOf e)) k 0 ≡ keyAt (getD more k noMergedEdge)
@@ -180,26 +180,26 @@ module _ (edges : List MergedEdge) (keys next heads : List ℕ) (c : Chained edg
             hit keys (length edges) (keyOf e) k (omega (arith, c .keys-long)) s ∙ sym (ap keyAt (new-at k s) ∙ key-new)
 
         next-is : (k : ℕ) → k < length more → (b : Bool) → ltb k (length edges) ≡ b
-            → getD (set next (length edges) (getD heads (e .from) 0)) k 0 ≡ lastSlot (getD more k noMergedEdge .from) more k
+            → getD (set next (length edges) (getD heads (e .from + e .to) 0)) k 0 ≡ lastSlot (sumOf (getD more k noMergedEdge)) more k
         next-is k h true q =
             let l = ltb-true k (length edges) q in
-            miss next (length edges) (getD heads (e .from) 0) k (λ s. omega (arith, l)) ∙ c .next-at k l
-            ∙ sym (ap (λ (x : MergedEdge). lastSlot (x .from) more k) (old-at k l) ∙ last-old (getD edges k noMergedEdge .from) k (omega (arith, l)))
+            miss next (length edges) (getD heads (e .from + e .to) 0) k (λ s. omega (arith, l)) ∙ c .next-at k l
+            ∙ sym (ap (λ (x : MergedEdge). lastSlot (sumOf x) more k) (old-at k l) ∙ last-old (sumOf (getD edges k noMergedEdge)) k (omega (arith, l)))
         next-is k h false q =
             let s : k ≡ length edges = omega (arith, longer, ltb-false k (length edges) q) in
-            hit next (length edges) (getD heads (e .from) 0) k (omega (arith, c .next-long)) s ∙ c .head-at (e .from) (f .from-in)
-            ∙ sym (ap (λ (x : MergedEdge). lastSlot (x .from) more k) (new-at k s) ∙ ap (lastSlot (e .from) more) s ∙ last-old (e .from) (length edges) (omega arith))
+            hit next (length edges) (getD heads (e .from + e .to) 0) k (omega (arith, c .next-long)) s ∙ c .head-at (e .from + e .to) (omega (arith, f .from-in, f .to-in))
+            ∙ sym (ap (λ (x : MergedEdge). lastSlot (sumOf x) more k) (new-at k s) ∙ ap (lastSlot (e .from + e .to) more) s ∙ last-old (e .from + e .to) (length edges) (omega arith))
 
-        head : (v : ℕ) → v < maxSteps → (b : Bool) → eqb (e .from) v ≡ b → getD (set heads (e .from) (length edges + 1)) v 0 ≡ lastSlot v more (length more)
+        head : (v : ℕ) → v < sumCount → (b : Bool) → eqb (e .from + e .to) v ≡ b → getD (set heads (e .from + e .to) (length edges + 1)) v 0 ≡ lastSlot v more (length more)
         head v h b q = before b q ∙ sym (ap (lastSlot v more) (longer ∙ add-one (length edges)) ∙ step ∙ ap (λ (x : Bool). cond x (suc (length edges)) (lastSlot v more (length edges))) q)
           where
-            step : lastSlot v more (suc (length edges)) ≡ cond (eqb (e .from) v) (suc (length edges)) (lastSlot v more (length edges))
-            step = last-step v more (length edges) ∙ ap (λ (x : MergedEdge). cond (eqb (x .from) v) (suc (length edges)) (lastSlot v more (length edges))) (new-at (length edges) refl)
+            step : lastSlot v more (suc (length edges)) ≡ cond (eqb (e .from + e .to) v) (suc (length edges)) (lastSlot v more (length edges))
+            step = last-step v more (length edges) ∙ ap (λ (x : MergedEdge). cond (eqb (sumOf x) v) (suc (length edges)) (lastSlot v more (length edges))) (new-at (length edges) refl)
 
-            before : (b : Bool) → eqb (e .from) v ≡ b → getD (set heads (e .from) (length edges + 1)) v 0 ≡ cond b (suc (length edges)) (lastSlot v more (length edges))
-            before true q = hit heads (e .from) (length edges + 1) v (omega (arith, c .heads-long, f .from-in)) (sym (eqb-true (e .from) v q)) ∙ add-one (length edges)
+            before : (b : Bool) → eqb (e .from + e .to) v ≡ b → getD (set heads (e .from + e .to) (length edges + 1)) v 0 ≡ cond b (suc (length edges)) (lastSlot v more (length edges))
+            before true q = hit heads (e .from + e .to) (length edges + 1) v (omega (arith, c .heads-long, f .from-in, f .to-in)) (sym (eqb-true (e .from + e .to) v q)) ∙ add-one (length edges)
             before false q =
-                miss heads (e .from) (length edges + 1) v (λ s. eqb-false (e .from) v q (sym s)) ∙ c .head-at v h ∙ sym (last-old v (length edges) (omega arith))
+                miss heads (e .from + e .to) (length edges + 1) v (λ s. eqb-false (e .from + e .to) v q (sym s)) ∙ c .head-at v h ∙ sym (last-old v (length edges) (omega arith))
 
   -- ---- what is found
 
@@ -208,15 +208,15 @@ module _ (edges : List MergedEdge) (keys next heads : List ℕ) (c : Chained edg
       record {
         back = λ k h.
             let inside : k < count = omega (arith, length-take-le count next (omega (arith, c .next-long))) in
-            omega (arith, getD-take count next k 0 inside, c .next-at k (omega arith), last-back (getD edges k noMergedEdge .from) edges k);
+            omega (arith, getD-take count next k 0 inside, c .next-at k (omega arith), last-back (sumOf (getD edges k noMergedEdge)) edges k);
       }
 
-  pub head-low : (v : ℕ) → v < maxSteps → getD heads v 0 ≤ length edges
+  pub head-low : (v : ℕ) → v < sumCount → getD heads v 0 ≤ length edges
   head-low v h = omega (arith, c .head-at v h, last-back v edges (length edges))
 
   module _ (e : TableEdge) (f : FairEdge maxSteps (ownEdge e)) (low : (k : ℕ) → k < length edges → getD edges k noMergedEdge .to < maxSteps)
       (count slot : ℕ) (counted : count ≡ length edges) (few : count ≤ maxEdges)
-      (found : SlotFound (take count keys) (take count next) (getD heads (e .from) 0) (keyOf e) slot) where
+      (found : SlotFound (take count keys) (take count next) (getD heads (e .from + e .to) 0) (keyOf e) slot) where
     long : length (take count next) ≡ count
     long = length-take-le count next (omega (arith, c .next-long))
 
@@ -236,9 +236,9 @@ module _ (edges : List MergedEdge) (keys next heads : List ℕ) (c : Chained edg
         never j =
             let ends = has-ends (getD edges (j .place) noMergedEdge .from) (getD edges (j .place) noMergedEdge .to) (getD edges (j .place) noMergedEdge .soft) e (j .joining) in
             found .none s (j .place)
-            (subst (Chain (take count next) (j .place)) (sym (c .head-at (e .from) (f .from-in)))
-            (last-chain (e .from) edges (take count next) (length edges)
-            (λ k l. getD-take count next k 0 (omega arith) ∙ c .next-at k l) (j .place) (j .inside) (ends .tail)))
+            (subst (Chain (take count next) (j .place)) (sym (c .head-at (e .from + e .to) (omega (arith, f .from-in, f .to-in))))
+            (last-chain (e .from + e .to) edges (take count next) (length edges)
+            (λ k l. getD-take count next k 0 (omega arith) ∙ c .next-at k l) (j .place) (j .inside) (omega (arith, ends .tail, ends .head))))
             (getD-take count keys (j .place) 0 (omega (arith, j .inside)) ∙ c .key-at (j .place) (j .inside)
             ∙ key-same (asTable (getD edges (j .place) noMergedEdge)) e (j .joining))
 

@@ -15,7 +15,7 @@ use Rattle.buffers.specs.Padded.{padded}
 use Rattle.merging.specs.declared.MergedEdge.{MergedEdge}
 use Rattle.merging.specs.Merged.{noMergedEdge, noneLike, mergedAt, mergedFrom, merged, joins, mergedAlone, joined}
 use Rattle.merging.specs.declared.MergedEdges.{MergedEdges}
-use Rattle.merging.specs.Merging.{maxAdded, Mergeable, mergedArray, keyOf, Links, SlotFound, Chained}
+use Rattle.merging.specs.Merging.{maxAdded, Mergeable, mergedArray, keyOf, Links, SlotFound, sumCount, Chained}
 use Rattle.merging.proofs.MergedLaws.{widened, merged-more, fresh-alone}
 use Rattle.merging.proofs.JoinLaws.{joinings, joinings-one, joined-some, widen-none, widen-one}
 use Rattle.merging.proofs.ChainLaws.{chained-none, chained-join, chained-start, links, head-low, slot-low, slot-joins, slot-nowhere}
@@ -82,7 +82,7 @@ pub record Merging (edges : List TableEdge) (i : ℕ) (list : List MergedEdge) (
   pub counted : count ≡ length (merged (take i edges))
   pub chained : Chained (merged (take i edges)) keys next heads
 
-pub merging-none : (edges : List TableEdge) → Merging edges 0 (replicate maxEdges noMergedEdge) (replicate maxEdges 0) (replicate maxEdges 0) (replicate maxSteps 0) 0
+pub merging-none : (edges : List TableEdge) → Merging edges 0 (replicate maxEdges noMergedEdge) (replicate maxEdges 0) (replicate maxEdges 0) (replicate sumCount 0) 0
 unfolding padded merged mergedFrom
 merging-none edges = record { listed = refl; counted = refl; chained = chained-none }
 
@@ -130,13 +130,13 @@ module _ (m : ℕ) (edges : List TableEdge) (ok : Mergeable m edges) (i : ℕ) (
   so-far-even =
       length-take-le count keys (omega (arith, s .chained .keys-long, few-so-far)) ∙ sym (length-take-le count next (omega (arith, s .chained .next-long, few-so-far)))
 
-  pub so-far-start : getD heads (edge .from) 0 ≤ length (take count next)
+  pub so-far-start : getD heads (edge .from + edge .to) 0 ≤ length (take count next)
   so-far-start =
-      omega (arith, head-low before keys next heads (s .chained) (edge .from) (fair .from-in), s .counted, length-take-le count next (omega (arith, s .chained .next-long, few-so-far)))
+      omega (arith, head-low before keys next heads (s .chained) (edge .from + edge .to) (omega (arith, fair .from-in, fair .to-in)), s .counted, length-take-le count next (omega (arith, s .chained .next-long, few-so-far)))
 
-  module _ (key slot : ℕ) (own : key ≡ keyOf edge) (found : SlotFound (take count keys) (take count next) (getD heads (edge .from) 0) key slot) where
-    here-found : SlotFound (take count keys) (take count next) (getD heads (edge .from) 0) (keyOf edge) slot
-    here-found = subst (λ (x : ℕ). SlotFound (take count keys) (take count next) (getD heads (edge .from) 0) x slot) own found
+  module _ (key slot : ℕ) (own : key ≡ keyOf edge) (found : SlotFound (take count keys) (take count next) (getD heads (edge .from + edge .to) 0) key slot) where
+    here-found : SlotFound (take count keys) (take count next) (getD heads (edge .from + edge .to) 0) (keyOf edge) slot
+    here-found = subst (λ (x : ℕ). SlotFound (take count keys) (take count next) (getD heads (edge .from + edge .to) 0) x slot) own found
 
     pub found-low : slot ≤ count
     found-low = slot-low before keys next heads (s .chained) edge fair heads-low count slot (s .counted) (omega (arith, few-so-far)) here-found
@@ -159,7 +159,7 @@ module _ (m : ℕ) (edges : List TableEdge) (ok : Mergeable m edges) (i : ℕ) (
         }
 
     pub merging-start : slot ≤ 0 → (new : MergedEdge) (list′ : List MergedEdge) (keys′ next′ heads′ : List ℕ) (count′ : ℕ) → new ≡ mergedAlone i edge → list′ ≡ set list count new
-        → keys′ ≡ set keys count key → next′ ≡ set next count (getD heads (edge .from) 0) → heads′ ≡ set heads (edge .from) (count + 1) → count′ ≡ count + 1
+        → keys′ ≡ set keys count key → next′ ≡ set next count (getD heads (edge .from + edge .to) 0) → heads′ ≡ set heads (edge .from + edge .to) (count + 1) → count′ ≡ count + 1
         → Merging edges (i + 1) list′ keys′ next′ heads′ count′
     merging-start z new list′ keys′ next′ heads′ count′ a b c d e f =
         let none = slot-nowhere before keys next heads (s .chained) edge fair heads-low count slot (s .counted) (omega (arith, few-so-far)) here-found (omega arith) in

@@ -49,10 +49,19 @@ pub record SlotFound (keys next : List ℕ) (start key r : ℕ) : Type 0 where
   pub hit : (k : ℕ) → r ≡ suc k → getD keys k 0 ≡ key
   pub none : r ≡ 0 → (k : ℕ) → Chain next k start → getD keys k 0 ≡ key → ⊥
 
--- the slot of the last of the first k merged edges with a tail
+-- Merged edges with one sum of their ends are a chain: the sums of edges that leave one step, or that lead to one, are all different, so that
+-- a chain is short.
+abbrev pub sumOf : MergedEdge → ℕ
+sumOf e = e .from + e .to
+
+-- sums are smaller
+abbrev pub sumCount : ℕ
+sumCount = maxSteps + maxSteps
+
+-- the slot of the last of the first k merged edges with a sum
 unfoldable pub lastSlot : ℕ → List MergedEdge → ℕ → ℕ
-lastSlot tail edges zero = 0
-lastSlot tail edges (suc k) = let before = lastSlot tail edges k in cond (eqb (getD edges k noMergedEdge .from) tail) (suc k) before
+lastSlot sum edges zero = 0
+lastSlot sum edges (suc k) = let before = lastSlot sum edges k in cond (eqb (sumOf (getD edges k noMergedEdge)) sum) (suc k) before
 
 -- the key of a merged edge: that of an edge with its ends and firmness
 abbrev pub asTable : MergedEdge → TableEdge
@@ -61,11 +70,11 @@ asTable e = record { from = e .from; to = e .to; gap = e .gap; weight = e .weigh
 abbrev pub keyAt : MergedEdge → ℕ
 keyAt e = keyOf (asTable e)
 
--- arrays in which the merged edges with one tail are a chain
+-- arrays in which they are chained
 pub record Chained (edges : List MergedEdge) (keys next heads : List ℕ) : Type 0 where
   pub keys-long : length keys ≡ maxEdges
   pub next-long : length next ≡ maxEdges
-  pub heads-long : length heads ≡ maxSteps
+  pub heads-long : length heads ≡ sumCount
   pub key-at : (k : ℕ) → k < length edges → getD keys k 0 ≡ keyAt (getD edges k noMergedEdge)
-  pub next-at : (k : ℕ) → k < length edges → getD next k 0 ≡ lastSlot (getD edges k noMergedEdge .from) edges k
-  pub head-at : (v : ℕ) → v < maxSteps → getD heads v 0 ≡ lastSlot v edges (length edges)
+  pub next-at : (k : ℕ) → k < length edges → getD next k 0 ≡ lastSlot (sumOf (getD edges k noMergedEdge)) edges k
+  pub head-at : (v : ℕ) → v < sumCount → getD heads v 0 ≡ lastSlot v edges (length edges)

@@ -2,13 +2,13 @@
 // of a listing). Rows are found without it.
 mod slots;
 
+use crate::slots::SUMS;
 use crate::slots::find_slot;
 use crate::slots::key_of;
 use graph::Edge;
 use graph::TableEdge;
 use graph::direct;
 use table::limits::MAX_EDGES;
-use table::limits::MAX_STEPS;
 ghost use mathlib.Core.Path.{_≡_};
 ghost use Prim.Native.Nat.{_+_, _≤_, _<_, max};
 ghost use lib.ListN.{take, replicate};
@@ -41,13 +41,13 @@ pub fn merge_edges(edges: [TableEdge; MAX_EDGES], m: usize) -> MergedEdges
     let mut list = blank_list();
     let mut keys = [0usize; MAX_EDGES];
     let mut next = [0usize; MAX_EDGES];
-    let mut heads = [0usize; MAX_STEPS];
+    let mut heads = [0usize; SUMS];
     let mut count = 0;
     for i in 0..m {
         let e = edges[i];
-        let from = e.from as usize;
+        let sum = e.from as usize + e.to as usize;
         let key = key_of(e);
-        let slot = find_slot(&keys[..count], &next[..count], heads[from], key);
+        let slot = find_slot(&keys[..count], &next[..count], heads[sum], key);
         if 0 < slot {
             let place = slot - 1;
             let old = list[place];
@@ -55,9 +55,9 @@ pub fn merge_edges(edges: [TableEdge; MAX_EDGES], m: usize) -> MergedEdges
         } else {
             list[count] = start_edge(e, i);
             keys[count] = key;
-            next[count] = heads[from];
+            next[count] = heads[sum];
             count += 1;
-            heads[from] = count;
+            heads[sum] = count;
         }
     }
     MergedEdges {

@@ -1,5 +1,5 @@
-// The merged edge that an edge joins, found by a number that says ends and firmness. Those with one tail are a chain: a head for each step,
-// and for each merged edge the one before it with the same tail. A slot is one more than a place, and 0 where there is none.
+// The merged edge that an edge joins, found by a number that says ends and firmness. Those with one sum of their ends are a chain: a head for
+// each sum, and for each merged edge the one before it with the same sum. A slot is one more than a place, and 0 where there is none.
 use graph::TableEdge;
 use table::limits::MAX_STEPS;
 ghost use mathlib.Core.Path.{_≡_};
@@ -9,6 +9,9 @@ ghost use Rattle.graph.specs.Directed.{ownEdge};
 ghost use Rattle.table.specs.Limits.{maxSteps};
 ghost use Rattle.table.specs.Fair.{FairEdge};
 ghost use Rattle.merging.specs.Merging.{keyOf, Links, SlotFound};
+
+// How many sums of two ends there can be.
+pub const SUMS: usize = MAX_STEPS + MAX_STEPS;
 
 // The key of an edge.
 pub fn key_of(e: TableEdge) -> usize

@@ -1,13 +1,15 @@
 -- The first i edges are merged.
 use mathlib.Core.Logic.{⊎-elim}
 use mathlib.Core.Path.{sym}
-use Prim.Native.Nat.{_-_, _≤_, _<_}
+use Prim.Native.Nat.{_+_, _-_, _≤_, _<_}
 use native.Mathlib.Omega.{arith}
 use borrow.Author.Needs.{needs}
 use lib.ListN.{length, getD}
 use lib.Seq.{length-take-le}
+use Rattle.graph.specs.declared.TableEdge.{TableEdge}
 use Rattle.graph.specs.Directed.{noTableEdge}
-use Rattle.table.specs.Limits.{maxSteps, maxEdges}
+use Rattle.table.specs.Limits.{maxEdges}
+use Rattle.merging.specs.Merging.{sumCount}
 use Rattle.merging.proofs.MergingLaws.{Merging, merging-none, few-so-far, joined-light, so-far-links, so-far-even, so-far-start, found-low, merging-join, merging-start, merging-all}
 use Rattle.merging.proofs.merge_edges.Statement.{statement}
 use Rattle.merging.proofs.merge_edges.Tie as tie
@@ -18,30 +20,33 @@ Inv-loop m edges list₀ keys₀ next₀ heads₀ count₀ i₀ list keys next h
 abbrev μ-loop : tie.MeasureT-loop
 μ-loop m edges list₀ keys₀ next₀ heads₀ count₀ i₀ list keys next heads count i = m - i
 
--- at an edge: its tail is a step, and there is room for a merged edge more
+-- at an edge: it is one of the first m, there is room for a merged edge more, and the sum of its ends has a head
 abbrev K : Type 0
-K = tie.After-struct-known Inv-loop μ-loop
+K = tie.After-struct-known2 Inv-loop μ-loop
 
-tail-here : (c : K) → c .before .before .before .loop .i < c .before .before .before .before .before .args .m
-tail-here c = c .before .before .loop-test .taken
+tail-here : (c : K) → c .before .before .before .before .loop .i < c .before .before .before .before .before .before .args .m
+tail-here c = c .before .before .before .loop-test .taken
 
-room-here : (c : K) → c .before .before .before .loop .count < maxEdges
-room-here c = let l = c .before .before .before in few-so-far _ _ (l .before .before .pre) _ (tail-here c) _ _ _ _ _ (l .loop .inv .0)
+room-here : (c : K) → c .before .before .before .before .loop .count < maxEdges
+room-here c = let l = c .before .before .before .before in few-so-far _ _ (l .before .before .pre) _ (tail-here c) _ _ _ _ _ (l .loop .inv .0)
 
-from-here : (c : K) → getD (c .before .before .before .before .before .args .t1) (c .before .before .before .loop .i) noTableEdge .from < maxSteps
-from-here c = c .before .before .before .before .before .pre .each _ (tail-here c) .from-in
+abbrev edge-here : K → TableEdge
+edge-here c = getD (c .before .before .before .before .before .before .args .t1) (c .before .before .before .before .loop .i) noTableEdge
 
-keys-here : (c : K) → c .before .before .before .loop .count ≤ length (c .before .before .before .loop .keys)
-keys-here c = let l = c .before .before .before in let b = room-here c in omega (arith, b, l .loop .inv .0 .chained .keys-long)
+sum-here : (c : K) → edge-here c .from + edge-here c .to < sumCount
+sum-here c = let f = c .before .before .before .before .before .before .pre .each _ (tail-here c) in omega (arith, f .from-in, f .to-in)
 
-next-here : (c : K) → c .before .before .before .loop .count ≤ length (c .before .before .before .loop .next)
-next-here c = let l = c .before .before .before in let b = room-here c in omega (arith, b, l .loop .inv .0 .chained .next-long)
+keys-here : (c : K) → c .before .before .before .before .loop .count ≤ length (c .before .before .before .before .loop .keys)
+keys-here c = let l = c .before .before .before .before in let b = room-here c in omega (arith, b, l .loop .inv .0 .chained .keys-long)
+
+next-here : (c : K) → c .before .before .before .before .loop .count ≤ length (c .before .before .before .before .loop .next)
+next-here c = let l = c .before .before .before .before in let b = room-here c in omega (arith, b, l .loop .inv .0 .chained .next-long)
 
 -- a slot that was found is one of those so far
-low-here : (c : tie.After-find-slot Inv-loop μ-loop) → c .find-slot .result ≤ c .before .before .before .before .before .before .before .loop .count
+low-here : (c : tie.After-find-slot Inv-loop μ-loop) → c .find-slot .result ≤ c .before .before .before .before .before .before .before .before .loop .count
 low-here c =
     let k = c .before .before .before .before in
-    let l = k .before .before .before in
+    let l = k .before .before .before .before in
     found-low _ _ (l .before .before .pre) _ (tail-here k) _ _ _ _ _ (l .loop .inv .0) _ _ (c .before .before .before .key-of .ensures) (c .find-slot .ensures)
 
 place-here : (c : tie.After-find-slot Inv-loop μ-loop) → 0 < c .find-slot .result → c .find-slot .result - 1 < maxEdges
@@ -59,11 +64,17 @@ mul-e c = omega arith
 array-copy-out-e : tie.Need-array-copy-out-e Inv-loop μ-loop
 array-copy-out-e c = let s = c .before .before .before in omega (arith, s .pre .few)
 
-cast-from : tie.Need-cast-from Inv-loop μ-loop
-cast-from c = search needs
+cast-sum : tie.Need-cast-sum Inv-loop μ-loop
+cast-sum c = search needs
+
+cast-sum-2 : tie.Need-cast-sum-2 Inv-loop μ-loop
+cast-sum-2 c = search needs
+
+add-sum : tie.Need-add-sum Inv-loop μ-loop
+add-sum c = let b = sum-here c in omega (arith, b)
 
 key-of-requires : tie.Need-key-of-requires Inv-loop μ-loop
-key-of-requires c κs = c .before .before .before .before .before .pre .each _ (tail-here c)
+key-of-requires c κs = c .before .before .before .before .before .before .pre .each _ (tail-here c)
 
 array-share-prefix-keys : tie.Need-array-share-prefix-keys Inv-loop μ-loop
 array-share-prefix-keys c = keys-here (c .before)
@@ -78,15 +89,15 @@ slice-aggregate-find-slot-2 : tie.Need-slice-aggregate-find-slot-2 Inv-loop μ-l
 slice-aggregate-find-slot-2 c = sym (length-take-le _ _ (next-here (c .before .before .before)))
 
 mul-find-slot : tie.Need-mul-find-slot Inv-loop μ-loop
-mul-find-slot c = let b = from-here (c .before .before .before) in omega (arith, b)
+mul-find-slot c = let b = sum-here (c .before .before .before) in omega (arith, b)
 
 array-read-find-slot : tie.Need-array-read-find-slot Inv-loop μ-loop
-array-read-find-slot c = from-here (c .before .before .before)
+array-read-find-slot c = sum-here (c .before .before .before)
 
 find-slot-requires : tie.Need-find-slot-requires Inv-loop μ-loop
 find-slot-requires c κs =
     let k = c .before .before .before in
-    let l = k .before .before .before in (
+    let l = k .before .before .before .before in (
       (so-far-links _ _ (l .before .before .pre) _ (tail-here k) _ _ _ _ _ (l .loop .inv .0), so-far-even _ _ (l .before .before .pre) _ (tail-here k) _ _ _ _ _ (l .loop .inv .0)),
       so-far-start _ _ (l .before .before .pre) _ (tail-here k) _ _ _ _ _ (l .loop .inv .0),
     )
@@ -104,7 +115,7 @@ join-edge-requires : tie.Need-join-edge-requires Inv-loop μ-loop
 join-edge-requires c κs =
     let f = c .before .before in
     let k = f .before .before .before .before in
-    let l = k .before .before .before in
+    let l = k .before .before .before .before in
     joined-light _ _ (l .before .before .pre) _ (tail-here k) _ _ _ _ _ (l .loop .inv .0) _ (omega (arith, low-here f, c .before .if1 .taken))
 
 mul-list : tie.Need-mul-list Inv-loop μ-loop
@@ -116,7 +127,7 @@ array-set-from-list c = place-here (c .before .before .before) (c .before .befor
 start-edge-requires : tie.Need-start-edge-requires Inv-loop μ-loop
 start-edge-requires c κs =
     let k = c .before .before .before .before .before in
-    let b = room-here k in omega (arith, k .before .before .before .before .before .pre .few, tail-here k, b)
+    let b = room-here k in omega (arith, k .before .before .before .before .before .before .pre .few, tail-here k, b)
 
 mul-list-2 : tie.Need-mul-list-2 Inv-loop μ-loop
 mul-list-2 c = let b = room-here (c .before .before .before .before .before .before) in omega (arith, b)
@@ -131,10 +142,10 @@ array-write-keys : tie.Need-array-write-keys Inv-loop μ-loop
 array-write-keys c = room-here (c .before .before .before .before .before .before)
 
 mul-next : tie.Need-mul-next Inv-loop μ-loop
-mul-next c = let b = from-here (c .before .before .before .before .before .before) in omega (arith, b)
+mul-next c = let b = sum-here (c .before .before .before .before .before .before) in omega (arith, b)
 
 array-read-next : tie.Need-array-read-next Inv-loop μ-loop
-array-read-next c = from-here (c .before .before .before .before .before .before)
+array-read-next c = sum-here (c .before .before .before .before .before .before)
 
 mul-next-2 : tie.Need-mul-next-2 Inv-loop μ-loop
 mul-next-2 c = let b = room-here (c .before .before .before .before .before .before) in omega (arith, b)
@@ -146,10 +157,10 @@ add-count : tie.Need-add-count Inv-loop μ-loop
 add-count c = let b = room-here (c .before .before .before .before .before .before) in omega (arith, b)
 
 mul-heads : tie.Need-mul-heads Inv-loop μ-loop
-mul-heads c = let b = from-here (c .before .before .before .before .before .before) in omega (arith, b)
+mul-heads c = let b = sum-here (c .before .before .before .before .before .before) in omega (arith, b)
 
 array-write-heads : tie.Need-array-write-heads Inv-loop μ-loop
-array-write-heads c = from-here (c .before .before .before .before .before .before)
+array-write-heads c = sum-here (c .before .before .before .before .before .before)
 
 add-i : tie.Need-add-i Inv-loop μ-loop
 add-i c = omega arith
@@ -160,7 +171,7 @@ loop-less c = omega arith
 loop-again : tie.Need-loop-again Inv-loop μ-loop
 loop-again c =
     let k = c .before .before .before .before .before in
-    let l = k .before .before .before in
+    let l = k .before .before .before .before in
     let again = merging-join _ _ (l .before .before .pre) _ (tail-here k) _ _ _ _ _ (l .loop .inv .0) _ _ (c .before .before .before .before .key-of .ensures) (c .before .find-slot .ensures) in
     let first = merging-start _ _ (l .before .before .pre) _ (tail-here k) _ _ _ _ _ (l .loop .inv .0) _ _ (c .before .before .before .before .key-of .ensures) (c .before .find-slot .ensures) in (
       ⊎-elim
@@ -183,7 +194,9 @@ merge-edges-spec =
     loop-holds
     mul-e
     array-copy-out-e
-    cast-from
+    cast-sum
+    cast-sum-2
+    add-sum
     key-of-requires
     array-share-prefix-keys
     slice-aggregate-find-slot
