@@ -11,7 +11,8 @@ use Rattle.graph.specs.declared.Edge.{Edge}
 use Rattle.graph.specs.declared.TableEdge.{TableEdge}
 use Rattle.graph.specs.Directed.{ownEdge, noTableEdge, directed, directedBy}
 use Rattle.merging.specs.declared.MergedEdge.{MergedEdge}
-use Rattle.merging.specs.Merged.{alike, noneLike, mergedAt, mergedFrom, merged, drawnEdge, drawnEdges, mergedAlone}
+use Rattle.merging.specs.Merged.{alike, noneLike, mergedAt, mergedFrom, merged, drawnEdge, drawnEdges}
+use Rattle.merging.specs.Merging.{mergedAlone}
 use Rattle.merging.proofs.MergedLaws.{widened, merged-more, fresh-alone}
 use Rattle.merging.proofs.JoinLaws.{joinings, joinings-one, widen-none}
 use Rattle.merging.proofs.TotalLaws.{grown, directed-more}

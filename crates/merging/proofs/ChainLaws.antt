@@ -17,8 +17,8 @@ use Rattle.table.specs.Limits.{maxSteps, maxEdges}
 use Rattle.table.specs.Fair.{FairEdge}
 use Rattle.buffers.proofs.ListLaws.{hit, miss, zero-at}
 use Rattle.merging.specs.declared.MergedEdge.{MergedEdge}
-use Rattle.merging.specs.Merged.{noMergedEdge, alike, joins, joined, mergedAlone}
-use Rattle.merging.specs.Merging.{keyOf, Links, Chain, here, there, SlotFound, sumOf, sumCount, lastSlot, asTable, keyAt, Chained}
+use Rattle.merging.specs.Merged.{noMergedEdge, alike}
+use Rattle.merging.specs.Merging.{joins, joined, mergedAlone, keyOf, Links, Chain, here, there, SlotFound, sumOf, sumCount, lastSlot, asTable, keyAt, Chained}
 use Rattle.merging.proofs.AlikeLaws.{Ended, has-ends, ends-has}
 use Rattle.merging.proofs.MergedLaws.{widened}
 use Rattle.merging.proofs.JoinLaws.{joinings, Joining, joined-place}

@@ -8,7 +8,8 @@ use native.Mathlib.Omega.{arith}
 use lib.ListN.{length, getD, set}
 use Rattle.graph.specs.declared.TableEdge.{TableEdge}
 use Rattle.merging.specs.declared.MergedEdge.{MergedEdge}
-use Rattle.merging.specs.Merged.{noMergedEdge, alike, noneLike, mergedAt, mergedFrom, merged, joins, joined}
+use Rattle.merging.specs.Merged.{noMergedEdge, alike, noneLike, mergedAt, mergedFrom, merged}
+use Rattle.merging.specs.Merging.{joins, joined}
 use Rattle.merging.proofs.AlikeLaws.{alike-swap}
 use Rattle.merging.proofs.MergedLaws.{widened, none-more, none-both}
 

@@ -1,4 +1,4 @@
--- Laws by subject. A layer above wants FirstLaws, SameLaws and TurnedLaws.
+-- Laws by subject. A layer above wants all but those of how edges are merged one by one: MergedLaws, JoinLaws, ChainLaws, MergingLaws.
 pub mod AlikeLaws
 pub mod MergedLaws
 pub mod JoinLaws

@@ -1,4 +1,4 @@
--- Merged edges: each comes from its first edge, each edge has one that it is drawn as, and one edge more joins that or starts its own.
+-- What one edge more, at the end, does to merged edges: it joins those that it is drawn as one with, or starts one of its own.
 use mathlib.Core.Path.{_≡_, refl, sym, ap, _∙_}
 use mathlib.Core.Bool.{Bool, true, false, _&&_, not, cond, true≢false}
 use mathlib.Core.List.{List, [], _∷_, _++_, map, append-nil, append-assoc}
@@ -9,7 +9,8 @@ use lib.ListN.{length, getD}
 use Rattle.graph.specs.declared.TableEdge.{TableEdge}
 use Rattle.graph.specs.Directed.{noTableEdge}
 use Rattle.merging.specs.declared.MergedEdge.{MergedEdge}
-use Rattle.merging.specs.Merged.{alike, like, noneLike, largestGap, addedWeight, mergedAt, mergedFrom, merged, joins, mergedAlone, joined}
+use Rattle.merging.specs.Merged.{alike, like, noneLike, largestGap, addedWeight, mergedAt, mergedFrom, merged}
+use Rattle.merging.specs.Merging.{joins, mergedAlone, joined}
 use Rattle.merging.proofs.AlikeLaws.{alike-self, alike-both}
 
 -- ---- those drawn as one with an edge

@@ -13,9 +13,9 @@ use Rattle.table.specs.Limits.{maxSteps, maxEdges, maxWeight}
 use Rattle.table.specs.Fair.{FairEdge}
 use Rattle.buffers.specs.Padded.{padded}
 use Rattle.merging.specs.declared.MergedEdge.{MergedEdge}
-use Rattle.merging.specs.Merged.{noMergedEdge, noneLike, mergedAt, mergedFrom, merged, joins, mergedAlone, joined}
+use Rattle.merging.specs.Merged.{noMergedEdge, noneLike, mergedAt, mergedFrom, merged}
 use Rattle.merging.specs.declared.MergedEdges.{MergedEdges}
-use Rattle.merging.specs.Merging.{maxAdded, Mergeable, mergedArray, keyOf, Links, SlotFound, sumCount, Chained}
+use Rattle.merging.specs.Merging.{maxAdded, Mergeable, mergedArray, joins, mergedAlone, joined, keyOf, Links, SlotFound, sumCount, Chained}
 use Rattle.merging.proofs.MergedLaws.{widened, merged-more, fresh-alone}
 use Rattle.merging.proofs.JoinLaws.{joinings, joinings-one, joined-some, widen-none, widen-one}
 use Rattle.merging.proofs.ChainLaws.{chained-none, chained-join, chained-start, links, head-low, slot-low, slot-joins, slot-nowhere}

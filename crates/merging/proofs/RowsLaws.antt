@@ -61,6 +61,8 @@ module _ (flags : List Bool) (edges : List TableEdge) (a : Agreeing flags edges)
             gap-le-widest lines (d .place) there,
           )
 
+  -- The best rows of the edges are the best of the merged ones, and low enough to be among the placements that are tried for these, since the
+  -- widest gap is no smaller; the trial finds the best rows where it tries them.
   pub same-rows : Within n all → Best n all (rowsOf n all) → rowsOf n lines ≡ rowsOf n all
   same-rows w b =
       bounded-is-rowsOf n lines (rowsOf n all) (lines-within w) (λ i h. le-trans (rows-low n all i) (mul-le-mul-left (n - 1) widest-same))

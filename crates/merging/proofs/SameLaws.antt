@@ -1,5 +1,5 @@
--- Merged edges ask of rows what the edges do that they stand for, and cost the same: feasible rows, totals and best rows are those of the
--- edges. It is asked only that edges which are drawn as one are all as they are or all turned.
+-- Merged edges ask of rows what the edges do that they stand for: feasible rows are those of the edges. It is asked only that edges which are
+-- drawn as one are all as they are or all turned. That they cost the same is in TotalLaws.
 use mathlib.Core.Path.{_≡_, refl, sym, ap, _∙_, subst}
 use mathlib.Core.Bool.{Bool, true, false, cond}
 use mathlib.Core.List.{List, [], _∷_}
@@ -13,7 +13,8 @@ use Rattle.graph.specs.Rows.{noEdge, span, Kept, Feasible}
 use Rattle.graph.specs.Directed.{ownEdge, noTableEdge, directed, directedBy}
 use Rattle.graph.proofs.DirectedLaws.{directed-length, directed-get}
 use Rattle.merging.specs.declared.MergedEdge.{MergedEdge}
-use Rattle.merging.specs.Merged.{noMergedEdge, alike, like, largestGap, merged, asEdge, drawnEdge, drawnEdges, joins}
+use Rattle.merging.specs.Merged.{noMergedEdge, alike, like, largestGap, merged, asEdge, drawnEdge, drawnEdges}
+use Rattle.merging.specs.Merging.{joins}
 use Rattle.merging.proofs.AlikeLaws.{has-ends, alike-self}
 use Rattle.merging.proofs.MergedLaws.{none-not}
 use Rattle.merging.proofs.JoinLaws.{joinings-one, Joining, joined-place}
@@ -127,6 +128,8 @@ module _ (flags : List Bool) (edges : List TableEdge) (a : Agreeing flags edges)
   -- ---- feasible rows
 
   module _ (y : ℕ → ℕ) where
+    -- Rows that keep every edge keep every merged edge. Its gap is the largest of edges that all lie between its own ends, and point as it
+    -- does; each of these gaps fits between them, so the largest does.
     pub feasible-merged : Feasible (directedBy flags edges) y → Feasible (drawnEdges flags lines) y
     feasible-merged kept k h = rw (drawn-get flags lines k inside) (fits-kept y flag (asEdge line) (fits flag refl))
       where
@@ -170,6 +173,8 @@ module _ (flags : List Bool) (edges : List TableEdge) (a : Agreeing flags edges)
               widest (y (line .to) - y (line .from)) (λ j l h. omega (arith, subst (λ (x : Bool). GapFits y x (line .from) (line .to) (getD edges j noTableEdge .gap)) e (edge-fits j l h))),
             ))
 
+    -- The other way round, every edge is drawn as some merged edge, between the same ends; where the gap of that fits, its own, which is no
+    -- larger, fits too.
     pub merged-feasible : Feasible (drawnEdges flags lines) y → Feasible (directedBy flags edges) y
     merged-feasible kept j h = rw (directed-get flags edges j inside) (fits-kept y (getD flags j false) (ownEdge (getD edges j noTableEdge)) small)
       where

@@ -13,7 +13,8 @@ use Rattle.graph.specs.Rows.{at, span, total, Best}
 use Rattle.graph.specs.Directed.{ownEdge, noTableEdge, directed, directedBy}
 use Rattle.graph.proofs.DirectedLaws.{tail-get}
 use Rattle.merging.specs.declared.MergedEdge.{MergedEdge}
-use Rattle.merging.specs.Merged.{noMergedEdge, alike, noneLike, mergedAt, mergedFrom, merged, asEdge, drawnEdge, drawnEdges, joins, mergedAlone, joined}
+use Rattle.merging.specs.Merged.{noMergedEdge, alike, noneLike, mergedAt, mergedFrom, merged, asEdge, drawnEdge, drawnEdges}
+use Rattle.merging.specs.Merging.{joins, mergedAlone, joined}
 use Rattle.merging.proofs.AlikeLaws.{has-ends}
 use Rattle.merging.proofs.MergedLaws.{widened, merged-more, fresh-alone}
 use Rattle.merging.proofs.JoinLaws.{joinings, joinings-one, widen-none}
@@ -153,6 +154,9 @@ module _ (flags : List Bool) (y : ℕ → ℕ) where
             ap (λ (l : List MergedEdge). total (drawnEdges flags l) y) (append-nil (map (widened d) (merged edges)))
             ∙ total-joined d far-of (merged edges) (ones false e) reaches
 
+  -- Edges that are drawn as one have equal ends and one direction, so they are equally long in any rows, and their weights times that length
+  -- add up to the sum of the weights times it. By the edges one after the other: one more joins exactly one merged edge, whose weight grows
+  -- by its own, or starts one with its own weight; either way the total grows by what it costs itself.
   pub total-merged : (edges : List TableEdge) → Agreeing flags edges → total (drawnEdges flags (merged edges)) y ≡ total (directedBy flags edges) y
   unfolding total drawnEdges directedBy merged mergedFrom
   total-merged = grown (λ (l : List TableEdge). Agreeing flags l → total (drawnEdges flags (merged l)) y ≡ total (directedBy flags l) y) (λ a. refl) more
@@ -170,6 +174,8 @@ module _ (flags : List Bool) (y : ℕ → ℕ) where
           )
 
 -- ---- best rows
+
+-- The same rows are feasible and each has the same total, so what is least and lowest for the one is so for the other.
 
 module _ (flags : List Bool) (edges : List TableEdge) (a : Agreeing flags edges) (n : ℕ) (ys : List ℕ) where
   pub best-merged : Best n (directedBy flags edges) ys → Best n (drawnEdges flags (merged edges)) ys

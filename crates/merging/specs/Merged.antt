@@ -79,25 +79,3 @@ drawnEdge turned e = directed (getD turned (e .first) false) (asEdge e)
 
 unfoldable pub drawnEdges : List Bool → List MergedEdge → List Edge
 drawnEdges turned edges = map (drawnEdge turned) edges
-
--- ---- one edge more
-
--- an edge is drawn as one with a merged edge
-abbrev pub joins : TableEdge → MergedEdge → Bool
-joins e old = hasEnds (old .from) (old .to) (old .soft) e
-
--- edge i alone
-abbrev pub mergedAlone : ℕ → TableEdge → MergedEdge
-mergedAlone i e = record { from = e .from; to = e .to; gap = e .gap; soft = e .soft; first = i; weight = e .weight }
-
--- a merged edge with one edge more
-abbrev pub joined : TableEdge → MergedEdge → MergedEdge
-joined e old =
-    record {
-      from = old .from;
-      to = old .to;
-      gap = max (old .gap) (e .gap);
-      soft = old .soft;
-      first = old .first;
-      weight = old .weight + e .weight;
-    }

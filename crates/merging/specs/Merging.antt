@@ -1,8 +1,8 @@
 -- What the functions that merge edges ask for and answer.
 use mathlib.Core.Path.{_≡_}
-use mathlib.Core.Bool.{cond}
+use mathlib.Core.Bool.{Bool, cond}
 use mathlib.Core.List.{List}
-use Prim.Native.Nat.{ℕ, zero, suc, _+_, _*_, _≤_, _<_}
+use Prim.Native.Nat.{ℕ, zero, suc, _+_, _*_, _≤_, _<_, max}
 use lib.Dec.{eqb}
 use lib.ListN.{length, getD}
 use Rattle.graph.specs.declared.TableEdge.{TableEdge}
@@ -12,7 +12,7 @@ use Rattle.table.specs.Fair.{FairEdge}
 use Rattle.buffers.specs.Padded.{padded}
 use Rattle.merging.specs.declared.MergedEdge.{MergedEdge}
 use Rattle.merging.specs.declared.MergedEdges.{MergedEdges}
-use Rattle.merging.specs.Merged.{noMergedEdge, merged}
+use Rattle.merging.specs.Merged.{noMergedEdge, hasEnds, merged}
 
 -- as many weights added as there can be
 abbrev pub maxAdded : ℕ
@@ -27,6 +27,28 @@ pub record Mergeable (m : ℕ) (edges : List TableEdge) : Type 0 where
 -- edges as they are drawn, in an array
 abbrev pub mergedArray : List TableEdge → MergedEdges
 mergedArray edges = record { count = length (merged edges); list = padded maxEdges noMergedEdge (merged edges) }
+
+-- ---- one edge more
+
+-- an edge is drawn as one with a merged edge
+abbrev pub joins : TableEdge → MergedEdge → Bool
+joins e old = hasEnds (old .from) (old .to) (old .soft) e
+
+-- edge i alone
+abbrev pub mergedAlone : ℕ → TableEdge → MergedEdge
+mergedAlone i e = record { from = e .from; to = e .to; gap = e .gap; soft = e .soft; first = i; weight = e .weight }
+
+-- a merged edge with one edge more
+abbrev pub joined : TableEdge → MergedEdge → MergedEdge
+joined e old =
+    record {
+      from = old .from;
+      to = old .to;
+      gap = max (old .gap) (e .gap);
+      soft = old .soft;
+      first = old .first;
+      weight = old .weight + e .weight;
+    }
 
 -- ---- chains
 

@@ -14,8 +14,8 @@ ghost use Prim.Native.Nat.{_+_, _≤_, _<_, max};
 ghost use lib.ListN.{take, replicate};
 ghost use Rattle.graph.specs.Directed.{directed};
 ghost use Rattle.table.specs.Limits.{maxEdges};
-ghost use Rattle.merging.specs.Merged.{noMergedEdge, mergedAlone, joined, asEdge};
-ghost use Rattle.merging.specs.Merging.{maxAdded, Mergeable, mergedArray};
+ghost use Rattle.merging.specs.Merged.{noMergedEdge, asEdge};
+ghost use Rattle.merging.specs.Merging.{maxAdded, Mergeable, mergedArray, mergedAlone, joined};
 
 // Edges that are drawn as one: their ends in the table and their firmness, the largest gap, the weights added, and the number of the first.
 pub struct MergedEdge {

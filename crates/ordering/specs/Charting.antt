@@ -119,7 +119,7 @@ pub record ChartHandedOut (what : Outcome Charted) (rows order rows′ order′ 
   pub rows-are : rows′ ≡ chartEnd what rows order .rows
   pub order-is : order′ ≡ chartEnd what rows order .order
 
--- the figures of a chart are no larger: each edge has one segment more than dummies, and no row is above topRow
+-- the figures of a chart are no larger: each line has one segment more than dummies, and no row is above topRow
 pub record Small (f : Figures) : Type 0 where
   pub few-points : f .points ≤ maxPoints
   pub few-crossings : 2 * f .crossings ≤ (maxPoints + maxEdges) * (maxPoints + maxEdges)
