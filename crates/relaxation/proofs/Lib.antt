@@ -5,5 +5,4 @@ pub mod SweepLaws
 pub mod BestLaws
 pub mod BalanceLaws
 pub mod LowLaws
-pub mod LowestLaws
 pub mod ArcLaws

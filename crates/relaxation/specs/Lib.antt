@@ -4,5 +4,4 @@ pub mod Network
 pub mod Certificate
 pub mod Relax
 pub mod Low
-pub mod Lowest
 pub mod Arcs

@@ -2,9 +2,9 @@
 use buffers::copy_first;
 use hints::order::order_nodes;
 use hints::sink::sink_nodes;
+use lowest::find_short;
+use lowest::lowest_rows;
 use relaxation::low::find_high;
-use relaxation::lowest::find_short;
-use relaxation::lowest::lowest_rows;
 use relaxation::relax::relax_edges;
 ghost use mathlib.Core.Path.{_≡_};
 ghost use Prim.Native.Nat.{_≤_};

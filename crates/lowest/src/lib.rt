@@ -1,19 +1,19 @@
 // The lowest rows. A caller may lend rows that it found by relaxing the edges itself: a look at every edge and every node tells whether
 // they are the lowest ones, and only where they are not are they found here.
-use crate::low::find_high;
-use crate::relax::relax_edges;
 use buffers::clear_first;
 use buffers::larger_of;
+use relaxation::low::find_high;
+use relaxation::relax::relax_edges;
 ghost use mathlib.Core.Path.{_≡_};
 ghost use Prim.Native.Nat.{ℕ, _+_, _≤_, _<_};
 ghost use lib.ListN.{length, replicate};
 ghost use Rattle.graph.specs.Rows.{at};
 ghost use Rattle.relaxation.specs.Certificate.{Relaxed};
 ghost use Rattle.buffers.specs.Written.{wordLimit};
 ghost use Rattle.relaxation.specs.Limits.{rowLimit};
 ghost use Rattle.relaxation.specs.Network.{Shaped, Narrow};
 ghost use Rattle.relaxation.specs.Relax.{Holder, EdgesKept, Sums};
-ghost use Rattle.relaxation.specs.Lowest.{PropIs, Props, Propped, RowsLowest};
+ghost use Rattle.lowest.specs.Lowest.{PropIs, Props, Propped, RowsLowest};
 
 // 1 where the rows do not keep edge a.
 fn edge_short(from: &[usize], to: &[usize], gap: &[usize], y: &[usize], a: usize) -> usize

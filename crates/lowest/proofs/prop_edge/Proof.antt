@@ -5,8 +5,8 @@ use native.Mathlib.Omega.{arith}
 use Rattle.graph.specs.Rows.{at}
 use Rattle.buffers.proofs.IndexLaws.{offset, inside-more, inside-same}
 use borrow.Author.Needs.{needs}
-use Rattle.relaxation.proofs.lowest.prop_edge.Statement.{statement}
-use Rattle.relaxation.proofs.lowest.prop_edge.Tie as tie
+use Rattle.lowest.proofs.prop_edge.Statement.{statement}
+use Rattle.lowest.proofs.prop_edge.Tie as tie
 
 mul-t : tie.Need-mul-t
 mul-t c = search needs

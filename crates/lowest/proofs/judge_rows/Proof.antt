@@ -1,9 +1,9 @@
 use native.Mathlib.Omega.{arith}
 use Rattle.relaxation.proofs.LowLaws.{low-sums}
-use Rattle.relaxation.proofs.LowestLaws.{rows-lowest}
+use Rattle.lowest.proofs.LowestLaws.{rows-lowest}
 use borrow.Author.Needs.{needs}
-use Rattle.relaxation.proofs.lowest.judge_rows.Statement.{statement}
-use Rattle.relaxation.proofs.lowest.judge_rows.Tie as tie
+use Rattle.lowest.proofs.judge_rows.Statement.{statement}
+use Rattle.lowest.proofs.judge_rows.Tie as tie
 
 find-high-requires : tie.Need-find-high-requires
 find-high-requires c κs = c .before .before .before .before .before .pre .1 .1 .0

@@ -3,8 +3,8 @@ use denote.Ref.{now}
 use Rattle.graph.specs.Rows.{at}
 use Rattle.buffers.proofs.IndexLaws.{offset}
 use borrow.Author.Needs.{needs}
-use Rattle.relaxation.proofs.lowest.edge_short.Statement.{statement}
-use Rattle.relaxation.proofs.lowest.edge_short.Tie as tie
+use Rattle.lowest.proofs.edge_short.Statement.{statement}
+use Rattle.lowest.proofs.edge_short.Tie as tie
 
 mul-lo : tie.Need-mul-lo
 mul-lo c = search needs

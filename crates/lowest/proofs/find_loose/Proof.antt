@@ -3,8 +3,8 @@ use native.Mathlib.Omega.{arith}
 use Prim.Native.Nat.{ℕ, _-_, _≤_, _<_}
 use borrow.Author.Count.{below-none, below-more}
 use Rattle.graph.specs.Rows.{at}
-use Rattle.relaxation.proofs.lowest.find_loose.Statement.{statement}
-use Rattle.relaxation.proofs.lowest.find_loose.Tie as tie
+use Rattle.lowest.proofs.find_loose.Statement.{statement}
+use Rattle.lowest.proofs.find_loose.Tie as tie
 
 abbrev Inv-loop : tie.InvT-loop
 Inv-loop y mark n v₀ v = (v ≤ n) × ((u : ℕ) → u < v → 0 < at y u → 0 < at mark u)

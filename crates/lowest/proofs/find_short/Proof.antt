@@ -4,9 +4,9 @@ use native.Mathlib.Omega.{arith}
 use Prim.Native.Nat.{ℕ, _+_, _-_, _≤_, _<_}
 use lib.ListN.{length}
 use Rattle.graph.specs.Rows.{at}
 use Rattle.relaxation.proofs.RelaxLaws.{shaped-up}
-use Rattle.relaxation.proofs.lowest.find_short.Statement.{statement}
-use Rattle.relaxation.proofs.lowest.find_short.Tie as tie
+use Rattle.lowest.proofs.find_short.Statement.{statement}
+use Rattle.lowest.proofs.find_short.Tie as tie
 
 abbrev Inv-loop : tie.InvT-loop
 Inv-loop from to gap n y a₀ a = (a ≤ length from) × ((b : ℕ) → b < a → at y (at from b) + at gap b ≤ at y (at to b))

@@ -5,13 +5,13 @@ use Prim.Native.Nat.{ℕ, zero, suc, _+_, _-_, _≤_, _<_, max}
 use native.Mathlib.Omega.{arith}
 use lib.ListN.{length, set, replicate, length-set, length-replicate}
 use Rattle.graph.specs.Rows.{at}
 use Rattle.relaxation.specs.Certificate.{Height, ground, over, Relaxed}
 use Rattle.relaxation.specs.Network.{Shaped}
 use Rattle.relaxation.specs.Relax.{EdgesKept}
 use Rattle.buffers.proofs.ListLaws.{set-cases, zero-at}
 use Rattle.relaxation.proofs.RelaxLaws.{heights-any}
-use Rattle.relaxation.specs.Lowest.{Props, Prop, Propped, RowsLowest}
+use Rattle.lowest.specs.Lowest.{Props, Prop, Propped, RowsLowest}
 use Rattle.relaxation.proofs.LowLaws.{held-zero}
 
 pub propped-none : (from to gap : List ℕ) (n : ℕ) (y mark : List ℕ) → mark ≡ replicate n 0 → Propped from to gap n y mark
 propped-none from to gap n y mark e =

@@ -1,9 +1,9 @@
 use denote.Ref.{now}
 use Rattle.relaxation.proofs.LowLaws.{zero-long}
-use Rattle.relaxation.proofs.LowestLaws.{lowest-relaxed}
+use Rattle.lowest.proofs.LowestLaws.{lowest-relaxed}
 use borrow.Author.Needs.{needs}
-use Rattle.relaxation.proofs.lowest.lowest_rows.Statement.{statement}
-use Rattle.relaxation.proofs.lowest.lowest_rows.Tie as tie
+use Rattle.lowest.proofs.lowest_rows.Statement.{statement}
+use Rattle.lowest.proofs.lowest_rows.Tie as tie
 
 judge-rows-requires : tie.Need-judge-rows-requires
 judge-rows-requires c κs =

@@ -6,10 +6,10 @@ use lib.ListN.{length}
 use denote.Ref.{now}
 use Rattle.buffers.proofs.IndexLaws.{room}
 use Rattle.buffers.proofs.ListLaws.{cleared}
-use Rattle.relaxation.specs.Lowest.{Propped}
-use Rattle.relaxation.proofs.LowestLaws.{propped-none, propped-turn}
-use Rattle.relaxation.proofs.lowest.prop_nodes.Statement.{statement}
-use Rattle.relaxation.proofs.lowest.prop_nodes.Tie as tie
+use Rattle.lowest.specs.Lowest.{Propped}
+use Rattle.lowest.proofs.LowestLaws.{propped-none, propped-turn}
+use Rattle.lowest.proofs.prop_nodes.Statement.{statement}
+use Rattle.lowest.proofs.prop_nodes.Tie as tie
 
 abbrev Inv-loop : tie.InvT-loop
 Inv-loop from to gap n y mark₀ a₀ mark a = Propped from to gap n y mark
