@@ -7,8 +7,8 @@ use queries::types::NameAnswer;
 use rows::types::Row;
 use rows::types::RowsAnswer;
 use table::rule::Rule;
+use words::chart_word;
 use words::counts_word;
-use words::figures_word;
 use words::name_word;
 use words::refusal_word;
 use words::written_word;
@@ -118,6 +118,6 @@ pub extern "C" fn yuvatondro_chart(table: &[u8], rows: &mut [Row], order: &mut [
 {
     match ordering::draw_chart(table, rows, order) {
         ChartAnswer::Refused(f) => refusal_word(f),
-        ChartAnswer::Drawn(f) => figures_word(f),
+        ChartAnswer::Drawn(f) => chart_word(f.points, f.total, f.crossings),
     }
 }

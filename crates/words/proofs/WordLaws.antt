@@ -1,17 +1,13 @@
 -- Words are taken apart into the numbers that were packed into them.
-use mathlib.Core.Path.{_≡_, refl, sym, ap, subst, _∙_}
+use mathlib.Core.Path.{_≡_, refl, sym, ap, _∙_}
 use mathlib.Core.List.{List, [], _∷_}
-use Prim.Native.Nat.{ℕ, _+_, _*_, _/_, _%_, _≤_, _<_}
+use Prim.Native.Nat.{ℕ, _+_, _*_, _/_, _%_, _<_}
 use native.Mathlib.Omega.{arith}
 use lib.ListN.{getD}
 use Rattle.outcome.specs.declared.Refusal.{Refusal}
 use Rattle.outcome.specs.declared.Refusal.the-variants.{Cut, Overlong, BadEdition, ManySteps, BadKind, OutOfRange, BadNameByte, ManyEdges, BadEnd, Spare, Loop, ManyPoints, ShortBuffer, NoStep, BadFirmness}
-use Rattle.table.specs.Limits.{maxSteps, maxName}
 use Rattle.outcome.specs.Refusal.{numbersOf, stepOf, refusalIn}
-use Rattle.ordering.specs.declared.Figures.{Figures}
-use Rattle.ordering.specs.Calls.{figuresNumbers, ChartBest}
-use Rattle.ordering.specs.Charting.{Small}
-use Rattle.words.specs.Words.{wordRefusal, wordSteps, wordEdges, wordNameStart, wordNameLength, wordPoints, wordTotal, wordCrossings, wordWritten, wordRead, doneRead, writtenRead, countsRead, nameRead, chartRead, second, doneWord, countsWord, nameWord, chartWord}
+use Rattle.words.specs.Words.{wordRefusal, wordSteps, wordEdges, wordNameStart, wordNameLength, wordPoints, wordTotal, wordCrossings, wordWritten, wordRead, doneRead, writtenRead, countsRead, nameRead, chartRead, second, pointsRoom, totalRoom, doneWord, countsWord, nameWord, chartWord}
 
 -- ---- refusals
 
@@ -105,7 +101,7 @@ module _ (len : ℕ) {w : ℕ} (is : w ≡ doneWord (0 ∷ len ∷ [])) where
   unfolding writtenRead
   written-unpacks = rw (written-zero, written-rest)
 
-module _ (steps edges : ℕ) (h : steps ≤ maxSteps) {w : ℕ} (is : w ≡ countsWord (0 ∷ steps ∷ edges ∷ [])) where
+module _ (steps edges : ℕ) (h : steps < second) {w : ℕ} (is : w ≡ countsWord (0 ∷ steps ∷ edges ∷ [])) where
   counts-low : wordRefusal w ≡ 0
   counts-low = omega (arith, is)
 
@@ -119,7 +115,7 @@ module _ (steps edges : ℕ) (h : steps ≤ maxSteps) {w : ℕ} (is : w ≡ coun
   unfolding countsRead
   counts-unpacks = rw (counts-low, counts-first, counts-rest)
 
-module _ (start len : ℕ) (h : len ≤ maxName) {w : ℕ} (is : w ≡ nameWord (0 ∷ start ∷ len ∷ [])) where
+module _ (start len : ℕ) (h : len < second) {w : ℕ} (is : w ≡ nameWord (0 ∷ start ∷ len ∷ [])) where
   name-low : wordRefusal w ≡ 0
   name-low = omega (arith, is)
 
@@ -133,20 +129,20 @@ module _ (start len : ℕ) (h : len ≤ maxName) {w : ℕ} (is : w ≡ nameWord 
   unfolding nameRead
   name-unpacks = rw (name-low, name-first, name-rest)
 
-module _ (f : Figures) (small : Small f) {w : ℕ} (is : w ≡ chartWord (0 ∷ figuresNumbers f)) where
+module _ (points total crossings : ℕ) (few : points < pointsRoom) (low : total < totalRoom) {w : ℕ} (is : w ≡ chartWord (0 ∷ points ∷ total ∷ crossings ∷ [])) where
   chart-low : wordRefusal w ≡ 0
   chart-low = omega arith
 
-  chart-points : wordPoints w ≡ f .points
+  chart-points : wordPoints w ≡ points
   chart-points = omega arith
 
-  chart-total : wordTotal w ≡ f .total
+  chart-total : wordTotal w ≡ total
   chart-total = omega arith
 
-  chart-crossings : wordCrossings w ≡ f .crossings
+  chart-crossings : wordCrossings w ≡ crossings
   chart-crossings = omega arith
 
-  pub chart-unpacks : chartRead w ≡ 0 ∷ figuresNumbers f
+  pub chart-unpacks : chartRead w ≡ 0 ∷ points ∷ total ∷ crossings ∷ []
   unfolding chartRead
   chart-unpacks = rw (chart-low, chart-points, chart-total, chart-crossings)
 
@@ -162,17 +158,17 @@ pub written-told : (len : ℕ) {w : ℕ} → w ≡ doneWord (0 ∷ len ∷ []) �
     → (writtenRead w ≡ numbers) × (w ≡ doneWord numbers)
 written-told len is e = told writtenRead doneWord (written-unpacks len is) is e
 
-pub counts-told : (steps edges : ℕ) → steps ≤ maxSteps → {w : ℕ} → w ≡ countsWord (0 ∷ steps ∷ edges ∷ []) → {numbers : List ℕ}
+pub counts-told : (steps edges : ℕ) → steps < second → {w : ℕ} → w ≡ countsWord (0 ∷ steps ∷ edges ∷ []) → {numbers : List ℕ}
     → 0 ∷ steps ∷ edges ∷ [] ≡ numbers → (countsRead w ≡ numbers) × (w ≡ countsWord numbers)
 counts-told steps edges h is e = told countsRead countsWord (counts-unpacks steps edges h is) is e
 
-pub name-told : (start len : ℕ) → len ≤ maxName → {w : ℕ} → w ≡ nameWord (0 ∷ start ∷ len ∷ []) → {numbers : List ℕ}
+pub name-told : (start len : ℕ) → len < second → {w : ℕ} → w ≡ nameWord (0 ∷ start ∷ len ∷ []) → {numbers : List ℕ}
     → 0 ∷ start ∷ len ∷ [] ≡ numbers → (nameRead w ≡ numbers) × (w ≡ nameWord numbers)
 name-told start len h is e = told nameRead nameWord (name-unpacks start len h is) is e
 
-pub chart-told : (f : Figures) → Small f → {w : ℕ} → w ≡ chartWord (0 ∷ figuresNumbers f) → {numbers : List ℕ} → 0 ∷ figuresNumbers f ≡ numbers
-    → (chartRead w ≡ numbers) × (w ≡ chartWord numbers)
-chart-told f small is e = told chartRead chartWord (chart-unpacks f small is) is e
+pub chart-told : (points total crossings : ℕ) → points < pointsRoom → total < totalRoom → {w : ℕ} → w ≡ chartWord (0 ∷ points ∷ total ∷ crossings ∷ [])
+    → {numbers : List ℕ} → 0 ∷ points ∷ total ∷ crossings ∷ [] ≡ numbers → (chartRead w ≡ numbers) × (w ≡ chartWord numbers)
+chart-told points total crossings few low is e = told chartRead chartWord (chart-unpacks points total crossings few low is) is e
 
 -- ---- demand 3, from the answer to the word
 
@@ -180,6 +176,3 @@ chart-told f small is e = told chartRead chartWord (chart-unpacks f small is) is
 pub same-told : {numbers : List ℕ} {P : Type 0} {told : List ℕ} → told ≡ numbers → {read : List ℕ} → read ≡ numbers → (refusalIn told ≡ 0 → P)
     → refusalIn read ≡ 0 → P
 same-told e r b zero = b (ap refusalIn (e ∙ sym r) ∙ zero)
-
-pub chart-same : (bytes rows : List ℕ) {told read : List ℕ} → told ≡ read → ChartBest bytes told rows → ChartBest bytes read rows
-chart-same bytes rows e b = subst (λ l. ChartBest bytes l rows) e b

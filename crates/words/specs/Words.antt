@@ -83,6 +83,16 @@ totalUnit = 0x80000
 abbrev pub crossingsUnit : ℕ
 crossingsUnit = 0x100000000000
 
+-- what the points, the total and the crossings of a chart are below: 11, 25 and 20 bits
+abbrev pub pointsRoom : ℕ
+pointsRoom = 0x800
+
+abbrev pub totalRoom : ℕ
+totalRoom = 0x2000000
+
+abbrev pub crossingsRoom : ℕ
+crossingsRoom = 0x100000
+
 -- 0 or a refusal's number, and above it what else is told: with a loop the step, of a table the bytes written, or nothing
 abbrev pub doneWord : List ℕ → ℕ
 doneWord numbers = getD numbers 0 0 + getD numbers 1 0 * second

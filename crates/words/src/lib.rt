@@ -1,14 +1,11 @@
 // The words in which calls answer C: several numbers in 64 bits. specs/Words.antt says which bits, and what the functions of the header
 // read out of them.
-use ordering::Figures;
 use outcome::Refusal;
 ghost use mathlib.Core.Path.{_≡_};
 ghost use mathlib.Core.List.{[], _∷_};
 ghost use Prim.Native.Nat.{_<_};
 ghost use Rattle.outcome.specs.Refusal.{numbersOf, stepOf};
-ghost use Rattle.ordering.specs.Calls.{figuresNumbers};
-ghost use Rattle.ordering.specs.Charting.{Small};
-ghost use Rattle.words.specs.Words.{second, third, doneWord, countsWord, nameWord, chartWord};
+ghost use Rattle.words.specs.Words.{second, third, pointsRoom, totalRoom, crossingsRoom, doneWord, countsWord, nameWord, chartWord};
 
 // Where the numbers of a word start: behind the low byte, behind the next, and the total and the crossings of a chart.
 const SECOND: usize = 0x100;
@@ -44,11 +41,11 @@ pub fn name_word(start: usize, len: usize) -> u64
 }
 
 // The numbers that go with a chart as a word.
-pub fn figures_word(f: Figures) -> u64
-    requires { ⌜ Small f ⌝ }
-    ensures { λ r. ⌜ r ≡ chartWord (0 ∷ figuresNumbers f) ⌝ }
+pub fn chart_word(points: usize, total: usize, crossings: usize) -> u64
+    requires { ⌜ (points < pointsRoom) × (total < totalRoom) × (crossings < crossingsRoom) ⌝ }
+    ensures { λ r. ⌜ r ≡ chartWord (0 ∷ points ∷ total ∷ crossings ∷ []) ⌝ }
 {
-    (f.points * SECOND + f.total * TOTAL + f.crossings * CROSSINGS) as u64
+    (points * SECOND + total * TOTAL + crossings * CROSSINGS) as u64
 }
 
 // A refusal as a word.

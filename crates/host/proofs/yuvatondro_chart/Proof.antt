@@ -1,13 +1,19 @@
--- Either answer of `draw_chart` makes its word: the figures are small, and so is the step of a refusal.
+-- Either answer of `draw_chart` makes its word: the figures are small enough for it, and so is the step of a refusal.
 use native.Mathlib.Omega.{arith}
-use mathlib.Core.Path.{sym, ap, _∙_}
-use Rattle.ordering.specs.Calls.{chartNumbers}
+use mathlib.Core.Path.{_≡_, sym, ap, subst, _∙_}
+use mathlib.Core.List.{List}
+use Prim.Native.Nat.{ℕ}
+use Rattle.ordering.specs.Calls.{chartNumbers, ChartBest}
 use Rattle.ordering.proofs.FigureLaws.{figures-small}
 use Rattle.ordering.proofs.StepLaws.{chart-call-step}
-use Rattle.words.proofs.WordLaws.{chart-refused, chart-told, chart-same}
+use Rattle.words.proofs.WordLaws.{chart-refused, chart-told}
 use borrow.Author.Needs.{needs}
 use Rattle.host.proofs.yuvatondro_chart.Statement.{statement}
 use Rattle.host.proofs.yuvatondro_chart.Tie as tie
+
+-- the same is promised where the same numbers are told
+chart-same : (bytes rows : List ℕ) {told read : List ℕ} → told ≡ read → ChartBest bytes told rows → ChartBest bytes read rows
+chart-same bytes rows e b = subst (λ l. ChartBest bytes l rows) e b
 
 draw-chart-requires : tie.Need-draw-chart-requires
 draw-chart-requires c κs = search needs
@@ -23,11 +29,12 @@ refusal-word-requires c κs =
 enum-known-f-2 : tie.Need-enum-known-f-2
 enum-known-f-2 c = search needs
 
-figures-word-requires : tie.Need-figures-word-requires
-figures-word-requires c κs =
+chart-word-requires : tie.Need-chart-word-requires
+chart-word-requires c κs =
     let told = c .before .before .before .before .before .before .before .draw-chart .ensures in
     let f = c .before .f2 .given in
-    figures-small _ _ _ (f .0 .0) _ (sym (sym (ap chartNumbers (f .1)) ∙ told .0)) (chart-same _ _ (ap chartNumbers (f .1)) (told .1 .1 .1))
+    let small = figures-small _ _ _ (f .0 .0) _ (sym (sym (ap chartNumbers (f .1)) ∙ told .0)) (chart-same _ _ (ap chartNumbers (f .1)) (told .1 .1 .1)) in
+    (omega (arith, small .few-points), omega (arith, small .low-total), omega (arith, small .few-crossings))
 
 same-length : tie.Need-same-length
 same-length c = search needs
@@ -55,7 +62,7 @@ returns-2 c =
     let f = c .before .before .f2 .given in
     let e = sym (ap chartNumbers (f .1)) ∙ told .0 in
     let small = figures-small _ _ _ (f .0 .0) _ (sym e) (chart-same _ _ (ap chartNumbers (f .1)) (told .1 .1 .1)) in
-    let word = chart-told (f .0 .0) small (c .figures-word .ensures) e in
+    let word = chart-told (f .0 .0 .points) (f .0 .0 .total) (f .0 .0 .crossings) (omega (arith, small .few-points)) (omega (arith, small .low-total)) (c .chart-word .ensures) e in
     (word .0, (word .1, (told .1 .0, (told .1 .1 .0, chart-same _ _ (told .0 ∙ sym (word .0)) (told .1 .1 .1)))))
 
 pub yuvatondro-chart-spec : {M : Type 1} → statement M
@@ -66,7 +73,7 @@ yuvatondro-chart-spec =
     enum-known-f
     refusal-word-requires
     enum-known-f-2
-    figures-word-requires
+    chart-word-requires
     same-length
     same-length-2
     returns
