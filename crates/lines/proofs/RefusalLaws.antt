@@ -4,7 +4,7 @@ use Prim.Native.Nat.{ℕ, _≤_, _<_}
 use native.Mathlib.Omega.{arith}
 use lib.ListN.{length, length-append}
 use Rattle.outcome.specs.declared.Refusal.{Refusal}
-use Rattle.outcome.specs.declared.Refusal.the-variants.{Cut, Overlong, BadEdition, ManySteps, BadKind, OutOfRange, BadNameByte, ManyEdges, BadEnd, Spare, Loop, ManyPoints, ShortBuffer, NoStep, BadFirmness}
+use Rattle.outcome.specs.declared.Refusal.the-variants.{Cut, Overlong, BadEdition, ManySteps, BadKind, OutOfRange, BadNameByte, ManyEdges, BadEnd, Spare, Loop, ManyPoints, ShortBuffer, NoStep, BadFirmness, LargeChart}
 use Rattle.outcome.specs.Refusal.{stepOf}
 use Rattle.labels.specs.Text.{text, decimal, blanked}
 use Rattle.labels.proofs.DecimalLaws.{tens, decimal-short}
@@ -32,3 +32,4 @@ refusal-short ManyPoints h = one-short 12 (omega arith)
 refusal-short ShortBuffer h = one-short 13 (omega arith)
 refusal-short NoStep h = one-short 14 (omega arith)
 refusal-short BadFirmness h = one-short 15 (omega arith)
+refusal-short LargeChart h = one-short 16 (omega arith)

@@ -24,6 +24,8 @@ pub enum Refusal {
     NoStep,
     // A firmness that is neither 0 nor 1.
     BadFirmness,
+    // More points than get an x.
+    LargeChart,
 }
 
 pub enum Verdict {
@@ -51,5 +53,6 @@ pub fn number_of(f: Refusal) -> usize
         Refusal::ShortBuffer => 13,
         Refusal::NoStep => 14,
         Refusal::BadFirmness => 15,
+        Refusal::LargeChart => 16,
     }
 }

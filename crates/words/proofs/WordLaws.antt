@@ -5,9 +5,9 @@ use Prim.Native.Nat.{ℕ, _+_, _*_, _/_, _%_, _<_}
 use native.Mathlib.Omega.{arith}
 use lib.ListN.{getD}
 use Rattle.outcome.specs.declared.Refusal.{Refusal}
-use Rattle.outcome.specs.declared.Refusal.the-variants.{Cut, Overlong, BadEdition, ManySteps, BadKind, OutOfRange, BadNameByte, ManyEdges, BadEnd, Spare, Loop, ManyPoints, ShortBuffer, NoStep, BadFirmness}
+use Rattle.outcome.specs.declared.Refusal.the-variants.{Cut, Overlong, BadEdition, ManySteps, BadKind, OutOfRange, BadNameByte, ManyEdges, BadEnd, Spare, Loop, ManyPoints, ShortBuffer, NoStep, BadFirmness, LargeChart}
 use Rattle.outcome.specs.Refusal.{numbersOf, stepOf, refusalIn}
-use Rattle.words.specs.Words.{wordRefusal, wordSteps, wordEdges, wordNameStart, wordNameLength, wordPoints, wordTotal, wordCrossings, wordWritten, wordRead, doneRead, writtenRead, countsRead, nameRead, chartRead, second, pointsRoom, totalRoom, doneWord, countsWord, nameWord, chartWord}
+use Rattle.words.specs.Words.{wordRefusal, wordSteps, wordEdges, wordNameStart, wordNameLength, wordPoints, wordTotal, wordCrossings, wordWritten, wordRead, doneRead, writtenRead, pointsRead, countsRead, nameRead, chartRead, second, pointsRoom, totalRoom, doneWord, countsWord, nameWord, chartWord}
 
 -- ---- refusals
 
@@ -37,6 +37,7 @@ refusal-read values ManyPoints h = refl
 refusal-read values ShortBuffer h = refl
 refusal-read values NoStep h = refl
 refusal-read values BadFirmness h = refl
+refusal-read values LargeChart h = refl
 
 -- no more than two numbers come with a refusal, and one alone but with a loop, so its word is the same in every call
 pub refusal-short : (f : Refusal) → (getD (numbersOf f) 2 0 ≡ 0) × (getD (numbersOf f) 3 0 ≡ 0)
@@ -55,6 +56,7 @@ refusal-short ManyPoints = (refl, refl)
 refusal-short ShortBuffer = (refl, refl)
 refusal-short NoStep = (refl, refl)
 refusal-short BadFirmness = (refl, refl)
+refusal-short LargeChart = (refl, refl)
 
 -- so much is said of a word by its call: the numbers read out of it, and which word it is
 module _ (f : Refusal) (low : stepOf f < second) {w : ℕ} (is : w ≡ doneWord (numbersOf f)) {numbers : List ℕ} (e : numbersOf f ≡ numbers) where
@@ -68,6 +70,10 @@ module _ (f : Refusal) (low : stepOf f < second) {w : ℕ} (is : w ≡ doneWord 
   pub written-refused : (writtenRead w ≡ numbers) × (w ≡ doneWord numbers)
   unfolding writtenRead
   written-refused = (read-back (λ w. wordWritten w ∷ []), is ∙ ap doneWord e)
+
+  pub points-refused : (pointsRead w ≡ numbers) × (w ≡ doneWord numbers)
+  unfolding pointsRead
+  points-refused = (read-back (λ w. wordPoints w ∷ []), is ∙ ap doneWord e)
 
   pub counts-refused : (countsRead w ≡ numbers) × (w ≡ countsWord numbers)
   unfolding countsRead
@@ -100,6 +106,14 @@ module _ (len : ℕ) {w : ℕ} (is : w ≡ doneWord (0 ∷ len ∷ [])) where
   pub written-unpacks : writtenRead w ≡ 0 ∷ len ∷ []
   unfolding writtenRead
   written-unpacks = rw (written-zero, written-rest)
+
+  -- few enough are also read as points
+  written-points : len < pointsRoom → wordPoints w ≡ len
+  written-points h = omega (arith, is)
+
+  pub points-unpacks : len < pointsRoom → pointsRead w ≡ 0 ∷ len ∷ []
+  unfolding pointsRead
+  points-unpacks h = rw (written-zero, written-points h)
 
 module _ (steps edges : ℕ) (h : steps < second) {w : ℕ} (is : w ≡ countsWord (0 ∷ steps ∷ edges ∷ [])) where
   counts-low : wordRefusal w ≡ 0
@@ -157,6 +171,10 @@ done-told e = told doneRead doneWord (done-unpacks refl) refl e
 pub written-told : (len : ℕ) {w : ℕ} → w ≡ doneWord (0 ∷ len ∷ []) → {numbers : List ℕ} → 0 ∷ len ∷ [] ≡ numbers
     → (writtenRead w ≡ numbers) × (w ≡ doneWord numbers)
 written-told len is e = told writtenRead doneWord (written-unpacks len is) is e
+
+pub points-told : (points : ℕ) → points < pointsRoom → {w : ℕ} → w ≡ doneWord (0 ∷ points ∷ []) → {numbers : List ℕ} → 0 ∷ points ∷ [] ≡ numbers
+    → (pointsRead w ≡ numbers) × (w ≡ doneWord numbers)
+points-told points few is e = told pointsRead doneWord (points-unpacks points is few) is e
 
 pub counts-told : (steps edges : ℕ) → steps < second → {w : ℕ} → w ≡ countsWord (0 ∷ steps ∷ edges ∷ []) → {numbers : List ℕ}
     → 0 ∷ steps ∷ edges ∷ [] ≡ numbers → (countsRead w ≡ numbers) × (w ≡ countsWord numbers)

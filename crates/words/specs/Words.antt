@@ -59,6 +59,9 @@ doneRead = wordRead (λ w. [])
 unfoldable pub writtenRead : ℕ → List ℕ
 writtenRead = wordRead (λ w. wordWritten w ∷ [])
 
+unfoldable pub pointsRead : ℕ → List ℕ
+pointsRead = wordRead (λ w. wordPoints w ∷ [])
+
 unfoldable pub countsRead : ℕ → List ℕ
 countsRead = wordRead (λ w. wordSteps w ∷ wordEdges w ∷ [])
 
@@ -93,7 +96,7 @@ totalRoom = 0x2000000
 abbrev pub crossingsRoom : ℕ
 crossingsRoom = 0x100000
 
--- 0 or a refusal's number, and above it what else is told: with a loop the step, of a table the bytes written, or nothing
+-- 0 or a refusal's number, and above it what else is told: with a loop the step, the bytes of a table or the x that were written, or nothing
 abbrev pub doneWord : List ℕ → ℕ
 doneWord numbers = getD numbers 0 0 + getD numbers 1 0 * second
 

@@ -16,7 +16,7 @@ const TOTAL: usize = 0x80000;
 
 const CROSSINGS: usize = 0x100000000000;
 
-// How many bytes were written as a word.
+// How many bytes or x were written as a word.
 pub fn written_word(len: usize) -> u64
     requires { ⌜ len < third ⌝ }
     ensures { λ r. ⌜ r ≡ doneWord (0 ∷ len ∷ []) ⌝ }
@@ -76,5 +76,6 @@ fn loop_step(f: Refusal) -> usize
         Refusal::ShortBuffer => 0,
         Refusal::NoStep => 0,
         Refusal::BadFirmness => 0,
+        Refusal::LargeChart => 0,
     }
 }
