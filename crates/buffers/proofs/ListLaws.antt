@@ -5,8 +5,8 @@ use Prim.Native.Nat.{ℕ, zero, suc, _-_, _+_, _≤_, _<_}
 use native.Mathlib.Decide.{ℕ-discrete, decLt}
 use native.Mathlib.Nat.{sub-zero, zero-sub, suc-sub-suc}
 use native.Mathlib.Omega.{arith}
-use lib.ListN.{length, getD, set, take, drop, replicate, List·getD-eq-default}
-use lib.Seq.{getD-set-same, getD-set-other, getD-drop, getD-take, drop-length, slice, length-slice, take-nil}
+use lib.ListN.{length, getD, set, take, drop, replicate, length-replicate, List·getD-eq-default}
+use lib.Seq.{getD-set-same, getD-set-other, getD-drop, getD-take, length-take-le, drop-length, slice, length-slice, take-nil}
 use Rattle.graph.specs.Rows.{at}
 use Rattle.buffers.specs.Lists.{Below}
 
@@ -42,6 +42,10 @@ zero-at n i = blank-at n i 0
 
 pub cleared : (n : ℕ) (l : List ℕ) → length l ≡ n → replicate n 0 ++ drop n l ≡ replicate n 0
 cleared n l e = ap (λ (t : List ℕ). replicate n 0 ++ t) (sym (ap (λ (k : ℕ). drop k l) e) ∙ drop-length l) ∙ append-nil (replicate n 0)
+
+-- a part of an array of zeros has as many entries as it says
+pub part-count : (n k : ℕ) → n ≤ k → length (take n (replicate {A = ℕ} k 0)) ≡ n
+part-count n k h = length-take-le n (replicate k 0) (subst (λ (x : ℕ). n ≤ x) (sym (length-replicate {A = ℕ} k 0)) h)
 
 -- ---- small numbers
 

@@ -1,10 +1,12 @@
--- Sums over a run of numbers.
+-- Sums over a run of numbers, and of numbers that are all low.
 use mathlib.Core.Path.{_≡_, refl, ap}
-use mathlib.Core.List.{map}
+use mathlib.Core.List.{List, [], _∷_, map}
 use mathlib.Core.Logic.{⊎-elim}
-use Prim.Native.Nat.{ℕ, zero, suc, _+_, _≤_, _<_}
-use native.Mathlib.Nat.{eq-or-lt-of-le}
+use Prim.Native.Nat.{ℕ, zero, suc, _+_, _*_, _≤_, _<_, suc-le-suc}
+use native.Mathlib.Nat.{zero-lt-suc, eq-or-lt-of-le}
 use native.Mathlib.Omega.{arith}
+use lib.ListN.{length}
+use Rattle.graph.specs.Rows.{at}
 use Rattle.graph.specs.Search.{run}
 use Rattle.buffers.specs.Lists.{sum}
 
@@ -28,3 +30,9 @@ pub sum-last : (f : ℕ → ℕ) (a k : ℕ) → sum (map f (run a (suc k))) ≡
 unfolding sum run
 sum-last f a zero = let e : a + 0 ≡ a = omega arith in omega (arith, ap f e)
 sum-last f a (suc k) = let e : suc a + k ≡ a + suc k = omega arith in omega (arith, sum-last f (suc a) k, ap f e)
+
+-- a sum of numbers none of which is above k
+pub sum-low : (l : List ℕ) (k : ℕ) → ((i : ℕ) → i < length l → at l i ≤ k) → sum l ≤ length l * k
+unfolding sum
+sum-low [] k h = omega arith
+sum-low (x ∷ l) k h = omega (arith, h 0 (zero-lt-suc (length l)), sum-low l k (λ i b. h (suc i) (suc-le-suc b)))

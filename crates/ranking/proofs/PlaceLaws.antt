@@ -12,7 +12,8 @@ use Rattle.graph.specs.Rows.{at, total, Best, Within}
 use Rattle.graph.proofs.BoundLaws.{best-is-rowsOf}
 use Rattle.relaxation.specs.Limits.{gapLimit, weightLimit, rowLimit}
 use Rattle.buffers.specs.Lists.{sum}
-use Rattle.relaxation.specs.Network.{edgesOf, Network, Bounded, Buffers}
+use Rattle.buffers.proofs.SumLaws.{sum-low}
+use Rattle.relaxation.specs.Network.{edgesOf, Network, Bounded}
 use Rattle.relaxation.proofs.EdgesLaws.{length-edgesOf, edge-at}
 use Rattle.outcome.specs.declared.Refusal.the-variants.{Loop}
 use Rattle.outcome.specs.declared.Verdict.the-variants.{Accepted}
@@ -45,28 +46,10 @@ module _ {m : ℕ} {edges : List Edge} (f : Flat) (h : Flattened m edges (f .fro
   pub flattened-placed : (n : ℕ) (r : RowsFound) → EdgesPlaced n (frontEdges m f) r → EdgesPlaced n (take m edges) r
   flattened-placed n r = subst (λ l. EdgesPlaced n l r) (h .same)
 
--- ---- scratch of the solver
+-- ---- rows in an array
 
 abbrev zeros : List ℕ
 zeros = replicate maxSteps 0
-
--- a part of an array of zeros has as many entries as it says
-pub part-count : (n k : ℕ) → n ≤ k → length (take n (replicate {A = ℕ} k 0)) ≡ n
-part-count n k h = length-take-le n (replicate k 0) (subst (λ (x : ℕ). n ≤ x) (sym (length-replicate {A = ℕ} k 0)) h)
-
-pub scratch-fits : (m n : ℕ) (y : List ℕ) → m ≤ maxEdges → n ≤ maxSteps → length y ≡ maxSteps
-    → Buffers m n y (take m (replicate maxEdges 0)) (take n zeros) (take n zeros) (take n zeros) (take n zeros) (take n zeros) (take n zeros)
-scratch-fits m n y few h k =
-    record {
-      lengths = record { y-long = omega arith; rank-long = part; parent-long = part; capacity-long = part };
-      flow-long = part-count m maxEdges few;
-      supply-long = part;
-      demand-long = part;
-      lowest-long = part;
-    }
-  where
-    part : length (take n zeros) ≡ n
-    part = part-count n maxSteps h
 
 -- best rows in an array whose others are 0
 pub solved-rows : {n : ℕ} {edges : List Edge} (y : List ℕ) {rows : List ℕ} → Best n edges (take n y) → rows ≡ padded maxSteps 0 (take n y)
@@ -90,11 +73,6 @@ padded-rows n y rows few long s =
     ∙ ap (λ k. take n y ++ drop k zeros) count ∙ padded-paste maxSteps n y (omega arith)
 
 -- ---- flat slices of fair edges
-
-sum-low : (l : List ℕ) (k : ℕ) → ((i : ℕ) → i < length l → at l i ≤ k) → sum l ≤ length l * k
-unfolding sum
-sum-low [] k h = omega arith
-sum-low (x ∷ l) k h = omega (arith, h 0 (zero-lt-suc (length l)), sum-low l k (λ i b. h (suc i) (suc-le-suc b)))
 
 module _ (from to gap weight : List ℕ) (n : ℕ) (fair : FairEdges n (edgesOf from to gap weight)) (even : Even from to gap weight) where
   abbrev edges : List Edge

@@ -6,3 +6,4 @@ pub mod BestLaws
 pub mod BalanceLaws
 pub mod LowLaws
 pub mod ArcLaws
+pub mod ScratchLaws

@@ -1,9 +1,12 @@
 -- The scratch arrays have the lengths that the solver asks for, and its certificate says that the rows are best.
 use mathlib.Core.Path.{sym, _∙_}
+use native.Mathlib.Omega.{arith}
 use denote.Ref.{now}
 use lib.ListN.{length}
 use Rattle.table.specs.Limits.{maxSteps, maxEdges}
-use Rattle.ranking.proofs.PlaceLaws.{part-count, scratch-fits, solved-rows}
+use Rattle.buffers.proofs.ListLaws.{part-count}
+use Rattle.relaxation.proofs.ScratchLaws.{scratch-fits}
+use Rattle.ranking.proofs.PlaceLaws.{solved-rows}
 use borrow.Author.Needs.{needs}
 use Rattle.ranking.proofs.place.solve_rows.Statement.{statement}
 use Rattle.ranking.proofs.place.solve_rows.Tie as tie
@@ -90,8 +93,8 @@ solve-requires c κs =
       s .pre .0,
       (
         s .pre .1 .0,
-        scratch-fits (length (now (s .args .from))) (s .args .n) (s .args .settled) (s .pre .1 .1 .0 .1) (s .pre .1 .1 .0 .0)
-            (s .pre .1 .1 .1),
+        scratch-fits maxEdges maxSteps (length (now (s .args .from))) (s .args .n) (s .args .settled) (s .pre .1 .1 .0 .1) (s .pre .1 .1 .0 .0)
+            (omega (arith, s .pre .1 .1 .0 .0, s .pre .1 .1 .1)),
       ),
     )
 
