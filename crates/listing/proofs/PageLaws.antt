@@ -16,16 +16,14 @@ use Rattle.graph.specs.declared.TableEdge.{TableEdge}
 use Rattle.merging.specs.declared.MergedEdge.{MergedEdge}
 use Rattle.merging.specs.declared.MergedEdges.{MergedEdges}
 use Rattle.merging.specs.Merged.{noMergedEdge, merged, drawnEdges}
-use Rattle.merging.specs.Merging.{Mergeable, mergedArray}
+use Rattle.merging.specs.Merging.{mergedArray}
 use Rattle.merging.proofs.SameLaws.{drawn-length}
 use Rattle.merging.proofs.EndsLaws.{EndsAmong}
 use Rattle.ordering.specs.Calls.{drawnIn, Placing}
-use Rattle.ordering.proofs.DrawnLaws.{mergeable, few-merged, list-front, list-long, firsts-in, drawn-flags, drawn-among}
+use Rattle.ordering.proofs.DrawnLaws.{few-merged, list-front, list-long, firsts-in, drawn-flags, drawn-among}
 use Rattle.table.specs.Limits.{maxSteps, maxEdges}
 use Rattle.buffers.specs.Lists.{Below}
-use Rattle.rows.specs.Placed.{FairEdges}
 use Rattle.layering.specs.Calls.{orientedIn, turnedIn}
-use Rattle.layering.proofs.CallLaws.{read-oriented}
 use Rattle.lines.proofs.OwnerLaws.{owners-below}
 use Rattle.points.specs.Limits.{maxPoints}
 use Rattle.table.specs.Fair.{Fair}
@@ -45,7 +43,7 @@ use Rattle.labels.specs.Labels.{labelText}
 use Rattle.lines.specs.Printing.{linesFrom, numbered, ownersOf, dummyRows, Layable, Sheet}
 use Rattle.lines.proofs.LayLaws.{owners-count}
 use Rattle.listing.proofs.RowLineLaws.{drawing-lines, rows-cong, getD-padded, label-is}
-use Rattle.listing.proofs.ChartedLaws.{Opened}
+use Rattle.ordering.proofs.OpenedLaws.{Opened, few-own, rows-of, directed-fair}
 use Rattle.labels.proofs.PutLaws.{room-first, room-then}
 use Rattle.listing.proofs.WidthLaws.{listing-short}
 
@@ -110,24 +108,21 @@ module _ (bytes : List ℕ) (table : Table) (flags : List Bool) (f : ChartFound)
   fair : Fair bytes contents
   fair = read-fair bytes (o .said)
 
-  few-own : table .m ≤ maxEdges
-  few-own = omega (arith, o .m-is, fair .few-edges)
+  few : table .m ≤ maxEdges
+  few = few-own bytes table flags f o
 
-  rows-of : ys ≡ o .placing .rows
-  rows-of = ap (λ k. take k (f .rows)) (sym (o .f-n)) ∙ o .rows-are
+  rows-here : ys ≡ o .placing .rows
+  rows-here = rows-of bytes table flags f o
 
   pub rows-long : length ys ≡ length (contents .steps)
-  rows-long = ap length rows-of ∙ o .best .one-a-node
+  rows-long = ap length rows-here ∙ o .best .one-a-node
 
-  -- the edges as kept or turned are fair, and those that are drawn have their ends
-  directed-fair : FairEdges (length (contents .steps)) (orientedIn contents)
-  directed-fair = read-oriented bytes (o .said)
-
+  -- those that are drawn have the ends of the edges as kept or turned
   among : EndsAmong (orientedIn contents) (drawnIn contents)
   among = drawn-among contents
 
   front : take (all .count) (all .list) ≡ merged (take (table .m) (table .edges))
-  front = list-front flags (table .edges) (table .m) few-own (o .edges-long) all refl
+  front = list-front flags (table .edges) (table .m) few (o .edges-long) all refl
 
   drawn-are : edges ≡ drawnIn contents
   drawn-are =
@@ -135,7 +130,7 @@ module _ (bytes : List ℕ) (table : Table) (flags : List Bool) (f : ChartFound)
 
   drawn-count : all .count ≡ length (drawnIn contents)
   drawn-count =
-      sym (length-take-le (all .count) (all .list) (omega (arith, few-merged flags (table .edges) (table .m) few-own (o .edges-long) all refl, list-long flags (table .edges) (table .m) few-own (o .edges-long) all refl)))
+      sym (length-take-le (all .count) (all .list) (omega (arith, few-merged flags (table .edges) (table .m) few (o .edges-long) all refl, list-long flags (table .edges) (table .m) few (o .edges-long) all refl)))
       ∙ sym (drawn-length flags (take (all .count) (all .list))) ∙ ap length drawn-are
 
   numbered-are : (ds : List Dummy) → numbered (all .list) ds ≡ numbered (merged (contents .edges)) ds
@@ -148,27 +143,22 @@ module _ (bytes : List ℕ) (table : Table) (flags : List Bool) (f : ChartFound)
 
   -- points counted by rows and edges as the arrays have them
   points-of : f .points ≡ length ys + length (dummies ys 0 edges)
-  points-of = rw (rows-of, drawn-are) (o .points-are ∙ point-count (o .placing .rows) (drawnIn contents))
-
-  pub page-mergeable : Mergeable (table .m) (table .edges)
-  page-mergeable =
-      mergeable flags (table .edges) (table .m) few-own (o .edges-long) (length (contents .steps))
-      (subst (FairEdges (length (contents .steps))) (sym (o .edges-are)) directed-fair)
+  points-of = rw (rows-here, drawn-are) (o .points-are ∙ point-count (o .placing .rows) (drawnIn contents))
 
   pub page-layable : (owners rows : List ℕ) → maxPoints ≤ length owners → maxPoints ≤ length rows → Layable (all .list) flags (all .count) ys owners rows
   page-layable owners rows a b =
       record {
-        few = few-merged flags (table .edges) (table .m) few-own (o .edges-long) all refl;
-        long = list-long flags (table .edges) (table .m) few-own (o .edges-long) all refl;
+        few = few-merged flags (table .edges) (table .m) few (o .edges-long) all refl;
+        long = list-long flags (table .edges) (table .m) few (o .edges-long) all refl;
         flags-long = o .flags-long;
-        firsts = firsts-in flags (table .edges) (table .m) few-own (o .edges-long) all refl;
+        firsts = firsts-in flags (table .edges) (table .m) few (o .edges-long) all refl;
         from-in = λ i h. let l : i < length (drawnIn contents) = omega (arith, drawn-count) in
-            rw (edge-at i) (omega (arith, among .tail i l, directed-fair .each (among .source i) (among .inside i l) .from-in, rows-long));
+            rw (edge-at i) (omega (arith, among .tail i l, directed-fair bytes table flags f o .each (among .source i) (among .inside i l) .from-in, rows-long));
         to-in = λ i h. let l : i < length (drawnIn contents) = omega (arith, drawn-count) in
-            rw (edge-at i) (omega (arith, among .head i l, directed-fair .each (among .source i) (among .inside i l) .to-in, rows-long));
+            rw (edge-at i) (omega (arith, among .head i l, directed-fair bytes table flags f o .each (among .source i) (among .inside i l) .to-in, rows-long));
         down = λ i h. let l : i < length (drawnIn contents) = omega (arith, drawn-count) in
-            rw (edge-at i, rows-of, among .tail i l, among .head i l)
-            (omega (arith, o .best .feasible (among .source i) (among .inside i l), directed-fair .each (among .source i) (among .inside i l) .gap-some));
+            rw (edge-at i, rows-here, among .tail i l, among .head i l)
+            (omega (arith, o .best .feasible (among .source i) (among .inside i l), directed-fair bytes table flags f o .each (among .source i) (among .inside i l) .gap-some));
         owners-room = omega (arith, points-of, o .few-points);
         rows-room = omega (arith, points-of, o .few-points);
       }
@@ -198,7 +188,7 @@ module _ (bytes : List ℕ) (table : Table) (flags : List Bool) (f : ChartFound)
           owned =
               subst (Below maxEdges) (sym eo)
               (owners-below maxEdges (all .list) ys edges
-              (λ k h. firsts-in flags (table .edges) (table .m) few-own (o .edges-long) all refl k (omega (arith, drawn-count, ap length drawn-are))));
+              (λ k h. firsts-in flags (table .edges) (table .m) few (o .edges-long) all refl k (omega (arith, drawn-count, ap length drawn-are))));
           points = record { below = order-below };
         }
 
@@ -207,11 +197,11 @@ module _ (bytes : List ℕ) (table : Table) (flags : List Bool) (f : ChartFound)
     unfolding listing
     page-is =
         page-text bytes (o .placing) (o .n-is) (o .m-is) (o .height-is) (o .total-is) (o .crossings-are)
-        (lines-here bytes (o .placing) (table .steps) flags (o .steps-are) (o .flags-are) (o .best .one-a-node) rows-of owners-are rows-are (o .height-is) (o .order-is))
+        (lines-here bytes (o .placing) (table .steps) flags (o .steps-are) (o .flags-are) (o .best .one-a-node) rows-here owners-are rows-are (o .height-is) (o .order-is))
         ∙ sym (ap (outcomeText bytes) (o .is))
       where
         dummies-are : dummies ys 0 edges ≡ dummies (o .placing .rows) 0 (drawnIn contents)
-        dummies-are = ap (λ (l : List ℕ). dummies l 0 edges) rows-of ∙ ap (dummies (o .placing .rows) 0) drawn-are
+        dummies-are = ap (λ (l : List ℕ). dummies l 0 edges) rows-here ∙ ap (dummies (o .placing .rows) 0) drawn-are
 
         owners-are : owners ≡ ownersOf (dummiesIn (o .placing))
         owners-are = eo ∙ ap (λ (l : List Dummy). ownersOf (numbered (all .list) l)) dummies-are ∙ ap ownersOf (numbered-are (dummies (o .placing .rows) 0 (drawnIn contents)))

@@ -6,9 +6,9 @@ use Prim.Native.Nat.{ℕ, _≤_, _<_}
 use native.Mathlib.Omega.{arith}
 use borrow.Author.Tests.{le-leb, lt-leb}
 use lib.ListN.{length, getD, take, drop, replicate, length-map, List·getD-map}
-use lib.Seq.{getD-take}
+use lib.Seq.{take-all}
 use Rattle.graph.specs.declared.Edge.{Edge}
-use Rattle.graph.specs.Rows.{at, noEdge, total}
+use Rattle.graph.specs.Rows.{at, noEdge, total, Best}
 use Rattle.outcome.specs.declared.Refusal.{Refusal}
 use Rattle.outcome.specs.declared.Refusal.the-variants.{ManyPoints}
 use Rattle.outcome.specs.declared.Verdict.the-variants.{Accepted, Refused}
@@ -23,13 +23,14 @@ use Rattle.fewest.specs.Fewest.{Drawing, drawingOf}
 use Rattle.drawing.specs.Drawing.{Drawable, DrawnIs}
 use Rattle.points.specs.Laying.{edgesBetween, Chart}
 use Rattle.ordering.specs.Calls.{pointCount, Charted, chartBy, ChartArrays, arraysOf, arraysIn}
-use Rattle.rows.specs.Placed.{outcomeBy}
+use Rattle.rows.specs.Placed.{outcomeBy, FairEdges}
+use Rattle.rows.proofs.PlacedLaws.{best-low}
 use Rattle.ordering.specs.Charting.{noChart, chartedBy, Sizable, RowsGiven, ChartHeld, unlessLarge, EdgesFound}
 use Rattle.points.proofs.PointLaws.{tails, heads, any-points, any-segments}
 use Rattle.fewest.proofs.CompleteLaws.{drawing-count}
 
 -- the drawing of edges is that of their ends
-drawing-of-ends : (ys : List ℕ) (edges : List Edge) → drawingOf ys (edgesBetween (tails edges) (heads edges)) ≡ drawingOf ys edges
+pub drawing-of-ends : (ys : List ℕ) (edges : List Edge) → drawingOf ys (edgesBetween (tails edges) (heads edges)) ≡ drawingOf ys edges
 unfolding drawingOf
 drawing-of-ends ys edges = rw (any-points ys edges, any-segments ys edges)
 
@@ -80,40 +81,42 @@ padded-over : (k : ℕ) (l : List ℕ) → l ++ drop (length l) (replicate k 0) 
 unfolding padded
 padded-over k l = ap (λ (rest : List ℕ). l ++ rest) (drop-zeros (length l) k)
 
-module _ (n : ℕ) (edges : List Edge) (rows : List ℕ) (sum : ℕ) (s : RowsGiven n edges rows sum) (drawn : List Edge) (among : EndsAmong edges drawn) where
-  low-at : (v : ℕ) → v < length (take n rows) → at (take n rows) v < maxPoints
+-- Best rows of fair edges lead each edge down that is drawn for them.
+module _ (n : ℕ) (edges : List Edge) (fair : FairEdges n edges) (ys : List ℕ) (best : Best n edges ys) (drawn : List Edge) (among : EndsAmong edges drawn) where
+  low-at : (v : ℕ) → v < length ys → at ys v < maxPoints
   low-at v h =
-      let l : v < n = omega (arith, s .best .one-a-node) in
-      omega (arith, getD-take n rows v 0 l, s .low v l)
+      let all : take n ys ≡ ys = take-all n ys (omega (arith, best .one-a-node)) in
+      omega (arith, best-low n edges ys fair (rw all best) v (omega (arith, best .one-a-node)))
 
-  chart-of : Chart (take n rows) (tails drawn) (heads drawn)
+  pub chart-of : Chart ys (tails drawn) (heads drawn)
   chart-of =
       record {
-        few-nodes = omega (arith, s .best .one-a-node, s .fair .few-steps);
-        few-edges = omega (arith, length-map drawn (λ (e : Edge). e .from), among .few, s .fair .few-edges);
+        few-nodes = omega (arith, best .one-a-node, fair .few-steps);
+        few-edges = omega (arith, length-map drawn (λ (e : Edge). e .from), among .few, fair .few-edges);
         few-rows = record { below = λ v h. omega (arith, low-at v h) };
         to-long = length-map drawn (λ (e : Edge). e .to) ∙ sym (length-map drawn (λ (e : Edge). e .from));
         from-in =
             record {
               below = λ i h. let l : i < length drawn = omega (arith, length-map drawn (λ (e : Edge). e .from)) in
-                  omega (arith, tail-at drawn i, among .tail i l, s .fair .each (among .source i) (among .inside i l) .from-in, s .best .one-a-node);
+                  omega (arith, tail-at drawn i, among .tail i l, fair .each (among .source i) (among .inside i l) .from-in, best .one-a-node);
             };
         to-in =
             record {
               below = λ i h. let l : i < length drawn = omega (arith, length-map drawn (λ (e : Edge). e .to)) in
-                  omega (arith, head-at drawn i, among .head i l, s .fair .each (among .source i) (among .inside i l) .to-in, s .best .one-a-node);
+                  omega (arith, head-at drawn i, among .head i l, fair .each (among .source i) (among .inside i l) .to-in, best .one-a-node);
             };
         down = λ i h. let l : i < length drawn = omega (arith, length-map drawn (λ (e : Edge). e .from)) in
             rw (tail-at drawn i, head-at drawn i, among .tail i l, among .head i l)
-            (omega (arith, s .best .feasible (among .source i) (among .inside i l), s .fair .each (among .source i) (among .inside i l) .gap-some));
+            (omega (arith, best .feasible (among .source i) (among .inside i l), fair .each (among .source i) (among .inside i l) .gap-some));
       }
 
+module _ (n : ℕ) (edges : List Edge) (rows : List ℕ) (sum : ℕ) (s : RowsGiven n edges rows sum) (drawn : List Edge) (among : EndsAmong edges drawn) where
   sizable-ends : Sizable (take n rows) (tails drawn) (heads drawn)
   sizable-ends =
       record {
-        chart = chart-of;
+        chart = chart-of n edges (s .fair) (take n rows) (s .best) drawn among;
         few-edges = omega (arith, length-map drawn (λ (e : Edge). e .from), among .few, s .fair .few-edges);
-        few-rows = record { below = low-at };
+        few-rows = record { below = low-at n edges (s .fair) (take n rows) (s .best) drawn among };
       }
 
   module _ (from to : List ℕ) (ef : from ≡ tails drawn) (et : to ≡ heads drawn) where

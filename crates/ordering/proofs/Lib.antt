@@ -7,3 +7,4 @@ pub mod FigureLaws
 pub mod StepLaws
 pub mod SizeLaws
 pub mod RepeatedLaws
+pub mod OpenedLaws

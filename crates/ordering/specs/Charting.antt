@@ -26,13 +26,15 @@ use Rattle.buffers.specs.Lists.{Below}
 use Rattle.points.specs.Laying.{Chart}
 use Rattle.ordering.specs.Calls.{pointCount, Charted, charted, chartOut, chartOfTable, chartEnd, chartNumbers, chartBy, arraysOf, arraysIn}
 
--- the first entries of two arrays, so many, are the ends of edges
-pub record Split (edges : List Edge) (count : ℕ) (from to : List ℕ) : Type 0 where
+-- the first entries of three arrays, so many, are the ends and the weights of edges
+pub record Split (edges : List Edge) (count : ℕ) (from to weight : List ℕ) : Type 0 where
   pub few : count ≤ maxEdges
   pub tails : take count from ≡ map (λ (e : Edge). e .from) edges
   pub heads : take count to ≡ map (λ (e : Edge). e .to) edges
+  pub weights : take count weight ≡ map (λ (e : Edge). e .weight) edges
   pub from-long : length from ≡ maxEdges
   pub to-long : length to ≡ maxEdges
+  pub weight-long : length weight ≡ maxEdges
 
 -- the first merged edges of an array, so many, and a flag for the first edge of each
 pub record Directable (count : ℕ) (list : List MergedEdge) (turned : List Bool) : Type 0 where

@@ -21,11 +21,12 @@ ghost use Rattle.merging.specs.Merged.{merged, drawnEdges};
 ghost use Rattle.merging.specs.Merging.{Mergeable};
 ghost use Rattle.ordering.specs.Charting.{Split, Directable, RowsGiven, noChart, EdgesFound};
 
-// The ends of edges, one array an end: the first `count` entries are in use.
+// The ends and the weights of edges, one array each: the first `count` entries are in use.
 pub struct EdgeEnds {
     pub count: usize,
     pub from: [usize; MAX_EDGES],
     pub to: [usize; MAX_EDGES],
+    pub weight: [usize; MAX_EDGES],
 }
 
 // A refusal, with a blank chart.
@@ -82,34 +83,37 @@ pub fn draw_edges(
     }
 }
 
-// The ends of the first m edges of an array as they are drawn.
-fn merge_ends(edges: [TableEdge; MAX_EDGES], turned: [bool; MAX_EDGES], m: usize) -> EdgeEnds
+// The ends and the weights of the first m edges of an array as they are drawn.
+pub fn merge_ends(edges: [TableEdge; MAX_EDGES], turned: [bool; MAX_EDGES], m: usize) -> EdgeEnds
     requires { ⌜ Mergeable m edges ⌝ }
     requires { ⌜ length turned ≡ maxEdges ⌝ }
-    ensures { λ r. ⌜ Split (drawnEdges turned (merged (take m edges))) (r .count) (r .from) (r .to) ⌝ }
+    ensures { λ r. ⌜ Split (drawnEdges turned (merged (take m edges))) (r .count) (r .from) (r .to) (r .weight) ⌝ }
 {
     let all = merge_edges(edges, m);
     let list = all.list;
     split_ends(list, turned, all.count)
 }
 
-// The ends of the first merged edges, so many, each kept or turned as its first edge is.
+// The ends and the weights of the first merged edges, so many, each kept or turned as its first edge is.
 fn split_ends(list: [MergedEdge; MAX_EDGES], turned: [bool; MAX_EDGES], count: usize) -> EdgeEnds
     requires { ⌜ Directable count list turned ⌝ }
-    ensures { λ r. ⌜ Split (take count (drawnEdges turned list)) (r .count) (r .from) (r .to) ⌝ }
+    ensures { λ r. ⌜ Split (take count (drawnEdges turned list)) (r .count) (r .from) (r .to) (r .weight) ⌝ }
 {
     let mut from = [0usize; MAX_EDGES];
     let mut to = [0usize; MAX_EDGES];
+    let mut weight = [0usize; MAX_EDGES];
     for i in 0..count {
         let e = list[i];
         let first = e.first as usize;
         let directed = direct_merged(e, turned[first]);
         from[i] = directed.from;
         to[i] = directed.to;
+        weight[i] = directed.weight;
     }
     EdgeEnds {
         count: count,
         from: from,
         to: to,
+        weight: weight,
     }
 }

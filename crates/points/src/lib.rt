@@ -27,7 +27,7 @@ pub fn count_points(rows: &[usize], from: &[usize], to: &[usize]) -> usize
 }
 
 // How many dummies an edge from node a to node b has.
-fn count_between(rows: &[usize], a: usize, b: usize) -> usize
+pub fn count_between(rows: &[usize], a: usize, b: usize) -> usize
     requires { ⌜ a < length (now rows) ⌝ }
     requires { ⌜ b < length (now rows) ⌝ }
     requires { ⌜ at (now rows) a < at (now rows) b ⌝ }

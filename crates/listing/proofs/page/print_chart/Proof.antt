@@ -13,8 +13,8 @@ use Rattle.ordering.specs.Charting.{Storable}
 use Rattle.lines.specs.Printing.{numbered, ownersOf, dummyRows, Layable}
 use Rattle.lines.proofs.LayLaws.{owners-count}
 use Rattle.listing.specs.Listing.{laidDummies}
-use Rattle.listing.proofs.ChartedLaws.{Opened, opened}
-use Rattle.listing.proofs.PageLaws.{page-mergeable, page-layable, page-sheet, page-head, page-rows, page-stored, stored-front, front-long}
+use Rattle.ordering.proofs.OpenedLaws.{Opened, opened, opened-mergeable}
+use Rattle.listing.proofs.PageLaws.{page-layable, page-sheet, page-head, page-rows, page-stored, stored-front, front-long}
 use borrow.Author.Needs.{needs}
 use Rattle.listing.proofs.page.print_chart.Statement.{statement}
 use Rattle.listing.proofs.page.print_chart.Tie as tie
@@ -65,7 +65,7 @@ slice-aggregate-lay-merged-2 c = search needs
 lay-merged-requires : tie.Need-lay-merged-requires
 lay-merged-requires c κs =
     let s = c .before .before .before .before .before .before .before .before .before in
-    (page-mergeable (now (s .args .bytes)) (s .args .table) (s .args .turned) (s .args .found) (open-of s), layable s)
+    (opened-mergeable (now (s .args .bytes)) (s .args .table) (s .args .turned) (s .args .found) (open-of s), layable s)
 
 slice-aggregate-put-line : tie.Need-slice-aggregate-put-line
 slice-aggregate-put-line c = search needs

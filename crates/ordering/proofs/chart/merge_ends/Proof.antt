@@ -19,7 +19,7 @@ returns : tie.Need-returns
 returns c =
     let start = c .before .before .before in
     let s = c .split-ends in
-    subst (λ (l : List Edge). Split l (s .result .count) (s .result .from) (s .result .to))
+    subst (λ (l : List Edge). Split l (s .result .count) (s .result .from) (s .result .to) (s .result .weight))
     (drawn-front (start .args .turned) _ _ (start .pre .0 .few) (start .pre .0 .long) _ (c .before .before .merge-edges .ensures)) (s .ensures)
 
 pub merge-ends-spec : {M : Type 1} → statement M

@@ -1,4 +1,4 @@
--- The ends of the first i merged edges, each in its direction, stand in the arrays.
+-- The ends and weights of the first i merged edges, each in its direction, stand in the arrays.
 use mathlib.Core.Path.{sym, _∙_}
 use Prim.Native.Nat.{_-_, _≤_, _<_}
 use native.Mathlib.Omega.{arith}
@@ -11,10 +11,10 @@ use Rattle.ordering.proofs.chart.split_ends.Statement.{statement}
 use Rattle.ordering.proofs.chart.split_ends.Tie as tie
 
 abbrev Inv-loop : tie.InvT-loop
-Inv-loop count list turned from₀ to₀ i₀ from to i = Splitting (drawnEdges turned list) i from to × (i ≤ count)
+Inv-loop count list turned from₀ to₀ weight₀ i₀ from to weight i = Splitting (drawnEdges turned list) i from to weight × (i ≤ count)
 
 abbrev μ-loop : tie.MeasureT-loop
-μ-loop count list turned from₀ to₀ i₀ from to i = count - i
+μ-loop count list turned from₀ to₀ weight₀ i₀ from to weight i = count - i
 
 loop-holds : tie.Need-loop-holds Inv-loop μ-loop
 loop-holds c = (splitting-none _, omega arith)
@@ -48,6 +48,12 @@ mul-to c = omega arith
 array-write-to : tie.Need-array-write-to Inv-loop μ-loop
 array-write-to c = let s = c .before .before .before .before .before in omega (arith, s .pre .few)
 
+mul-weight : tie.Need-mul-weight Inv-loop μ-loop
+mul-weight c = omega arith
+
+array-write-weight : tie.Need-array-write-weight Inv-loop μ-loop
+array-write-weight c = let s = c .before .before .before .before .before in omega (arith, s .pre .few)
+
 add-i : tie.Need-add-i Inv-loop μ-loop
 add-i c = omega arith
 
@@ -60,12 +66,12 @@ loop-again c =
     let s = l .before in
     let inside : l .loop .i < length (s .args .t1) = omega (arith, s .pre .few, s .pre .long) in
     let same = c .direct-merged .ensures ∙ sym (drawn-get (s .args .t2) (s .args .t1) (l .loop .i) inside) in
-    (splitting-with _ _ _ _ (l .loop .inv .0) (omega (arith, s .pre .few)) _ same, omega arith)
+    (splitting-with _ _ _ _ _ (l .loop .inv .0) (omega (arith, s .pre .few)) _ same, omega arith)
 
 returns : tie.Need-returns Inv-loop μ-loop
 returns c =
     let s = c .before .before in
-    splitting-all _ _ _ _ (c .before .loop .inv .0) (s .args .count) (omega arith) (s .pre .few)
+    splitting-all _ _ _ _ _ (c .before .loop .inv .0) (s .args .count) (omega arith) (s .pre .few)
     (drawn-length (s .args .t2) (s .args .t1) ∙ s .pre .long)
 
 pub split-ends-spec : {M : Type 1} → statement M
@@ -84,6 +90,8 @@ split-ends-spec =
     array-write-from
     mul-to
     array-write-to
+    mul-weight
+    array-write-weight
     add-i
     loop-less
     loop-again

@@ -26,20 +26,28 @@ use Rattle.table.proofs.FairLaws.{read-fair}
 use Rattle.acyclic.proofs.OrientedLaws.{turned-length, directed-oriented}
 use Rattle.layering.specs.Calls.{tableRowsFound, rowsOfTable, orientedIn, turnedIn, placeCall}
 use Rattle.layering.proofs.RankLaws.{padded-directs}
-use Rattle.layering.proofs.CallLaws.{place-flags}
-use Rattle.rows.specs.Placed.{outcomeBy}
+use Rattle.layering.proofs.CallLaws.{place-flags, read-oriented}
+use Rattle.rows.specs.Placed.{outcomeBy, FairEdges}
 use Rattle.ordering.specs.declared.Figures.{Figures}
 use Rattle.ordering.specs.declared.types.ChartFound.{ChartFound}
+use Rattle.graph.specs.declared.TableEdge.{TableEdge}
+use Rattle.merging.specs.Merged.{merged, drawnEdges}
+use Rattle.merging.specs.Merging.{Mergeable}
 use Rattle.points.specs.Points.{rowCount}
+use Rattle.points.specs.Laying.{Chart}
+use Rattle.points.proofs.PointLaws.{tails, heads}
 use Rattle.fewest.specs.Fewest.{drawingOf}
 use Rattle.ordering.specs.Calls.{drawnIn, Placing, pointCount, unlessMany, chartOfTable, Charted, charted, chartOut}
 use Rattle.ordering.specs.Charting.{chartedBy, TableFound}
+use Rattle.ordering.proofs.DrawnLaws.{mergeable, drawn-flags, drawn-among}
+use Rattle.ordering.proofs.ChartLaws.{chart-of}
 
 -- What the arrays and numbers of an accepted table hold: its steps and edges, its rows, and their drawing.
 pub record Opened (bytes : List ℕ) (table : Table) (flags : List Bool) (f : ChartFound) : Type 0 where
   pub placing : Placing
   pub is : chartOfTable bytes ≡ done placing
   pub said : read bytes ≡ done (placing .contents)
+  pub rows-found : rowsOfTable bytes ≡ done (placing .rows)
   pub n-is : table .n ≡ length (placing .contents .steps)
   pub f-n : f .n ≡ table .n
   pub steps-are : table .steps ≡ padded maxSteps noStep (placing .contents .steps)
@@ -150,6 +158,7 @@ module _ (bytes : List ℕ) (table : Table) (flags : List Bool) (f : ChartFound)
         placing = found .placing;
         is = found .is;
         said = found .said;
+        rows-found = found .rows-found;
         n-is = array-steps bytes table same t (found .said);
         f-n = node-count ∙ sym (array-steps bytes table same t (found .said));
         steps-are = array-list bytes table same t (found .said);
@@ -168,3 +177,32 @@ module _ (bytes : List ℕ) (table : Table) (flags : List Bool) (f : ChartFound)
         total-is = ap (λ (g : Figures). g .total) figures-are;
         crossings-are = ap (λ (g : Figures). g .crossings) figures-are;
       }
+
+-- ---- what a layer above takes from it
+
+module _ (bytes : List ℕ) (table : Table) (flags : List Bool) (f : ChartFound) (o : Opened bytes table flags f) where
+  pub few-own : table .m ≤ maxEdges
+  few-own = omega (arith, o .m-is, read-fair bytes (o .said) .few-edges)
+
+  pub rows-of : take (table .n) (f .rows) ≡ o .placing .rows
+  rows-of = ap (λ k. take k (f .rows)) (sym (o .f-n)) ∙ o .rows-are
+
+  -- the edges as kept or turned are fair
+  pub directed-fair : FairEdges (length (o .placing .contents .steps)) (orientedIn (o .placing .contents))
+  directed-fair = read-oriented bytes (o .said)
+
+  -- the table's edges can be merged
+  pub opened-mergeable : Mergeable (table .m) (table .edges)
+  opened-mergeable =
+      mergeable flags (table .edges) (table .m) few-own (o .edges-long) (length (o .placing .contents .steps))
+      (subst (FairEdges (length (o .placing .contents .steps))) (sym (o .edges-are)) directed-fair)
+
+  -- what is drawn of them are the edges of the chart
+  pub opened-drawn : drawnEdges flags (merged (take (table .m) (table .edges))) ≡ drawnIn (o .placing .contents)
+  opened-drawn =
+      ap (λ (l : List TableEdge). drawnEdges flags (merged l)) (o .own-edges)
+      ∙ ap (λ (b : List Bool). drawnEdges b (merged (o .placing .contents .edges))) (o .flags-are) ∙ drawn-flags (o .placing .contents)
+
+  -- and lead down
+  pub opened-chart : Chart (o .placing .rows) (tails (drawnIn (o .placing .contents))) (heads (drawnIn (o .placing .contents)))
+  opened-chart = chart-of (length (o .placing .contents .steps)) (orientedIn (o .placing .contents)) directed-fair (o .placing .rows) (o .best) (drawnIn (o .placing .contents)) (drawn-among (o .placing .contents))
