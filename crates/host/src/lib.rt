@@ -1,6 +1,7 @@
 // The calls for C. Slices are a pointer and a length; answers are packed into one word. Each contract says what the header's functions read
 // out of the word, in the numbers that the call tells, which word it is, and what the lent buffers hold at the end. All of it is in
 // the specs of `words` and of the layers below.
+use coordinates::XsAnswer;
 use ordering::ChartAnswer;
 use queries::types::CountsAnswer;
 use queries::types::NameAnswer;
@@ -21,7 +22,8 @@ ghost use Rattle.flatten.specs.Records.{recordsOf};
 ghost use Rattle.edgelist.specs.Calls.{recordCall, RecordsBest};
 ghost use Rattle.layering.specs.Calls.{rowsCall, TableBest};
 ghost use Rattle.ordering.specs.Calls.{chartCall, ChartBest};
-ghost use Rattle.words.specs.Words.{countsRead, countsWord, nameRead, nameWord, writtenRead, doneRead, doneWord, chartRead, chartWord};
+ghost use Rattle.coordinates.specs.Calls.{xsCall, XsBest};
+ghost use Rattle.words.specs.Words.{countsRead, countsWord, nameRead, nameWord, writtenRead, pointsRead, doneRead, doneWord, chartRead, chartWord};
 
 // The steps and the edges of a table.
 #[no_mangle]
@@ -119,5 +121,19 @@ pub extern "C" fn yuvatondro_chart(table: &[u8], rows: &mut [Row], order: &mut [
     match ordering::draw_chart(table, rows, order) {
         ChartAnswer::Refused(f) => refusal_word(f),
         ChartAnswer::Drawn(f) => chart_word(f.points, f.total, f.crossings),
+    }
+}
+
+// The x of each point of a table's chart, by the point's number, to a lent buffer.
+#[no_mangle]
+pub extern "C" fn yuvatondro_xs(table: &[u8], xs: &mut [u16]) -> u64
+    ensures { λ r. ⌜ pointsRead r ≡ xsCall (now (table .entry)) (now (xs .entry)) .numbers ⌝ }
+    ensures { λ r. ⌜ r ≡ doneWord (xsCall (now (table .entry)) (now (xs .entry)) .numbers) ⌝ }
+    ensures { λ _. ⌜ now (xs .exit) ≡ xsCall (now (table .entry)) (now (xs .entry)) .xs ⌝ }
+    ensures { λ r. ⌜ XsBest (now (table .entry)) (pointsRead r) (now (xs .exit)) ⌝ }
+{
+    match coordinates::find_xs(table, xs) {
+        XsAnswer::Refused(f) => refusal_word(f),
+        XsAnswer::Spaced(points) => written_word(points),
     }
 }
