@@ -19,7 +19,7 @@ extern "C" {
 #endif
 
 /* Why a call was turned down, in the order in which the conditions are judged: 1 to 10 and 15 from the bytes of the table from left to
- * right; then 14, or those of 11, 12, 13 that the call judges, in this order. */
+ * right; then 14, or those of 11, 12, 16, 13 that the call judges, in this order. */
 enum {
   YUVATONDRO_DONE = 0,
   YUVATONDRO_CUT = 1,           /* the bytes end in the middle of the table */
@@ -36,10 +36,14 @@ enum {
   YUVATONDRO_MANY_POINTS = 12,  /* more than YUVATONDRO_MAX_POINTS points, as yuvatondro_chart counts them */
   YUVATONDRO_SHORT_BUFFER = 13, /* a buffer is too short for what the call puts in it */
   YUVATONDRO_NO_STEP = 14,      /* the table has no step of that number */
-  YUVATONDRO_BAD_FIRMNESS = 15  /* a firmness above 1 */
+  YUVATONDRO_BAD_FIRMNESS = 15, /* a firmness above 1 */
+  YUVATONDRO_LARGE_CHART = 16   /* a chart of more than YUVATONDRO_MAX_XS points */
 };
 
 enum { YUVATONDRO_MAX_STEPS = 96, YUVATONDRO_MAX_EDGES = 288, YUVATONDRO_MAX_POINTS = 1024 };
+
+/* The most points of a chart for which yuvatondro_xs finds an x each. */
+enum { YUVATONDRO_MAX_XS = 128 };
 
 /* No row is above this: a gap is at most 4. Of a table of n steps none is above 4 * (n - 1); so tables of at most 64 steps, the most
  * there were up to version 1.3, have rows of at most 252, and lists of them that a host kept as bytes stay right. */
@@ -96,6 +100,23 @@ uint64_t yuvatondro_chart(const uint8_t *table, size_t table_len, uint16_t *rows
 static inline unsigned yuvatondro_points(uint64_t chart) { return (unsigned)(chart >> 8 & 0x7FF); }
 static inline unsigned long yuvatondro_total(uint64_t chart) { return (unsigned long)(chart >> 19 & 0x1FFFFFF); }
 static inline unsigned long yuvatondro_crossings(uint64_t chart) { return (unsigned long)(chart >> 44); }
+
+/* How far from the left the points of a chart stand: to `xs` a whole x for each, by point number, steps first and then dummies as above.
+ * x count from 0, and each is at least 1 more than that of the point's left neighbour in the order of yuvatondro_chart. Answers how many
+ * points there are, for yuvatondro_points. Refuses by 1 to 10 and 15, then 11, 12, 16, 13. YUVATONDRO_MAX_XS entries of `xs` are always
+ * enough.
+ *
+ * A segment is what a line has between two neighbouring rows, and costs the weight of the line, times a factor, times how far the x of its
+ * two ends differ. The factor is 1 between two steps, 2 between a step and a dummy, and 8 between two dummies, so that long lines are
+ * straight first of all. The x have the least sum of these costs that there is, and among all x with this sum the lowest at every point. So
+ * some point of each chart that has points stands at 0, and no x is as large as the number of points.
+ *
+ * To draw with them, call yuvatondro_chart too: x goes to the right, rows go down. The row of a step stands in its `rows`, and the dummies
+ * of a line stand in the rows between those of its two ends, one in each. A column of a drawing has to be as wide as the widest thing that
+ * it draws at a point, since an x is a number of columns and knows no widths; then nothing overlaps, and a segment whose ends have the same
+ * x is upright. Lines of weight 0 cost nothing, and so are straight only by chance. Charts of more than YUVATONDRO_MAX_XS points are left
+ * to the host: their order is what yuvatondro_chart gives for all charts. */
+uint64_t yuvatondro_xs(const uint8_t *table, size_t table_len, uint16_t *xs, size_t xs_len);
 
 /* The shortest form of a table, to `out`: the same steps and edges in the same order, every number in its fewest bytes, edition 1 if no
  * edge is soft and else 2. Answers how many bytes it wrote. Refuses by 1 to 10 and 15, then 13. No loop is looked for, and no edge is
