@@ -9,7 +9,7 @@
 /* The ranges of an edge's numbers, for which the header has no names. */
 enum { MAX_GAP = 4, MAX_WEIGHT = 255 };
 
-/* What buffers and guards are filled with, byte by byte: no row or point is FILL16. */
+/* What buffers and guards are filled with, byte by byte: no row, point or x is FILL16. */
 enum { FILL = 0xA5, FILL16 = 0xA5A5 };
 /* Room for more rows and points than there can be. */
 enum { ROWS = YUVATONDRO_MAX_STEPS + 16, POINTS = YUVATONDRO_MAX_POINTS + 76 };
@@ -48,6 +48,8 @@ enum { SIDE_BY_SIDE = 3 };
 void add_line(Edges *edges, size_t upper, size_t lower, size_t gap, size_t number);
 /* Edges of this gap and weight from each of so many steps to the next. */
 Edges make_chain(size_t steps, size_t gap, size_t weight);
+/* A chart of the most steps and rows with so many points, which are more than YUVATONDRO_MAX_ROW. */
+Edges make_points(size_t points);
 /* The table of these edges, whose steps are checks of one name, in edition 1 if no edge is soft. */
 Table write_edges(size_t steps, const Edges *edges);
 
@@ -81,6 +83,7 @@ extern const Written written[WRITTEN];
 uint64_t call_rows(const Table *t, size_t room, uint16_t *rows);
 uint64_t call_records(size_t steps, const size_t *records, size_t numbers, size_t room, uint16_t *rows);
 uint64_t call_chart(const Table *t, size_t room, size_t points, uint16_t *rows, uint16_t *order);
+uint64_t call_xs(const Table *t, size_t room, uint16_t *xs);
 uint64_t call_write(const Table *t, size_t room, uint8_t *out);
 uint64_t call_convert(const Table *t, size_t room, uint8_t *out);
 
@@ -99,5 +102,6 @@ void test_counts(void);
 void test_tall_charts(void);
 void test_means(void);
 void test_merged_edges(void);
+void test_xs_call(void);
 
 #endif

@@ -42,7 +42,7 @@ static void add_dummies(Edges *chain, size_t dummies) {
 }
 
 /* A chain of the most steps and the largest gap has one point in each row; edges beside it have the others. */
-static Edges make_points(size_t points) {
+Edges make_points(size_t points) {
   Edges edges = make_chain(YUVATONDRO_MAX_STEPS, MAX_GAP, 1);
   add_dummies(&edges, points - (YUVATONDRO_MAX_ROW + 1));
   return edges;

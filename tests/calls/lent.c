@@ -65,3 +65,10 @@ uint64_t call_chart(const Table *t, size_t room, size_t points, uint16_t *rows, 
   take_back(&for_order, "chart, order", answer, order);
   return answer;
 }
+
+uint64_t call_xs(const Table *t, size_t room, uint16_t *xs) {
+  Lent lent;
+  uint64_t answer = yuvatondro_xs(t->byte, t->len, lend(&lent, room * sizeof *xs), room);
+  take_back(&lent, "xs", answer, xs);
+  return answer;
+}

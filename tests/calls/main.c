@@ -27,6 +27,7 @@ int main(void) {
   test_tall_charts();
   test_means();
   test_merged_edges();
+  test_xs_call();
   printf("host: %d checks, each as expected\n", checks);
   return 0;
 }

@@ -149,7 +149,15 @@ static void expect_unjoined(size_t steps, const Edges *edges, const Table *t, ui
   expect(call_records(steps, laid.number, 4 * laid.count, steps, found) == 0 && same_entries(found, rows, steps), "unjoined: records");
 }
 
-/* A table with repeated edges, and the one with an edge for each line, have the same chart. */
+/* A table with repeated edges, and the one with an edge for each line, have the same x, or too many points for them. */
+static void expect_same_xs(const Table *t, const Table *joined, size_t points) {
+  uint16_t xs[2][POINTS];
+  uint64_t due = points > YUVATONDRO_MAX_XS ? 16 : (uint64_t)points << 8;
+  expect(call_xs(t, POINTS, xs[0]) == due && call_xs(joined, POINTS, xs[1]) == due, "repeated: the answers of xs");
+  expect(same_entries(xs[0], xs[1], POINTS), "repeated: xs");
+}
+
+/* They have the same chart. */
 static void test_same_chart(void) {
   uint32_t state = 1;
   for (size_t round = 0; round < 2000; round++) {
@@ -165,6 +173,7 @@ static void test_same_chart(void) {
     size_t points = yuvatondro_points(answer);
     expect(call_chart(&t, steps, points, rows[1], order[1]) == answer, "repeated: exact buffers");
     expect(call_chart(&t, steps, points - 1, rows[1], order[1]) == 13, "repeated: order one short");
+    expect_same_xs(&t, &joined, points);
   }
 }
 

@@ -34,6 +34,8 @@ static void test_same(const Table *t, const Table *shortest) {
   uint64_t chart = call_chart(t, ROWS, POINTS, rows[0], order[0]);
   expect(call_chart(shortest, ROWS, POINTS, rows[1], order[1]) == chart, "written: the answer of chart");
   expect(same_entries(rows[0], rows[1], ROWS) && same_entries(order[0], order[1], POINTS), "written: rows and order");
+  expect(call_xs(t, POINTS, order[0]) == call_xs(shortest, POINTS, order[1]), "written: the answer of xs");
+  expect(same_entries(order[0], order[1], POINTS), "written: xs");
   expect(wrote(call_write(shortest, shortest->len, out), out, shortest), "written again");
 }
 
