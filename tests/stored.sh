@@ -66,18 +66,22 @@ store() {
     tables "$@" >"$work/tables"
     results "$@" >"$work/results"
 }
-# as_stored WHO COMMAND...: what the command gives for the stored tables is what stands behind them
+# as_stored WHO COMMAND...: what the command gives for the stored tables is what stands behind them. A test may say in other words what is done
+# with a table that is not refused.
+did=written
 as_stored() {
     who=$1
     shift
     "$@" <"$work/tables" >"$work/given"
     same "$who (>) does not give what is stored (<)" "$work/results" "$work/given"
-    echo "$test: $(wc -l <"$work/tables") tables, each written or refused by $who as expected"
+    echo "$test: $(wc -l <"$work/tables") tables, each $did or refused by $who as expected"
 }
+# build_program SOURCE PROGRAM: makes a program that calls the library
+build_program() { cc -std=c99 -O1 -g -Wall -Wextra -pedantic -Werror -Iinclude "$1" target/staticlib/libhost.a -o "$2"; }
 # build_library: makes $work/library, which gives what a call of the library makes of the tables on its standard input. Its header has the
 # limits named above.
 build_library() {
-    cc -std=c99 -O1 -g -Wall -Wextra -pedantic -Werror -Iinclude tests/writing.c target/staticlib/libhost.a -o "$work/library"
+    build_program tests/writing.c "$work/library"
     [ "$("$work/library" limits)" = "$max_steps $max_edges $max_shortest $max_stored" ] ||
         { echo "$test: the header has other limits than tests/stored.sh: $("$work/library" limits)"; exit 1; }
 }
