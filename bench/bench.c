@@ -33,15 +33,16 @@ static double run_textbook(Case *c) {
 }
 static double run_lemon(Case *c) {
   if (!peer_is_here()) return 0;
-  if (!solve_by_peer(&c->inst, &c->peer)) stop(c, "LEMON found no optimum");
+  if (!solve_by_peer(network_of(&c->inst), &c->peer)) stop(c, "LEMON found no optimum");
   return c->peer.run_us;
 }
 static double (*const run[PROGRAMS])(Case *) = { run_ours, run_textbook, run_lemon };
 
 static void check_case(const Case *c) {
-  const char *fault = find_fault(&c->inst, c->rows, c->textbook.flow, total_of(&c->inst, c->textbook.rows));
-  if (!fault && peer_is_here()) fault = find_fault(&c->inst, c->rows, c->peer.flow, c->peer.total);
-  if (!fault && !is_feasible(&c->inst, c->textbook.rows)) fault = "the textbook method's rows are not feasible";
+  Network network = network_of(&c->inst);
+  const char *fault = find_fault(network, c->rows, c->textbook.flow, total_of(network, c->textbook.rows));
+  if (!fault && peer_is_here()) fault = find_fault(network, c->rows, c->peer.flow, c->peer.total);
+  if (!fault && !keeps_gaps(network, c->textbook.rows)) fault = "the textbook method's rows are not feasible";
   if (fault) stop(c, fault);
 }
 // Pushes and raises, from the model, whose rows must be ours.

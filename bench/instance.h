@@ -16,6 +16,13 @@ typedef struct {
   Edge edge[YUVATONDRO_MAX_EDGES];
 } Instance;
 
+// What the row problem needs of an instance; or of a network that is larger than a table may be, as the one for x is.
+typedef struct { size_t nodes, edges; const Edge *edge; } Network;
+static inline Network network_of(const Instance *inst) {
+  Network network = { inst->nodes, inst->edges, inst->edge };
+  return network;
+}
+
 // shapes.c: instances by shape, size and seed; the same arguments always give the same instance.
 size_t shape_count(void);
 void make_shape(Instance *inst, size_t shape, size_t nodes, size_t edges, uint64_t seed);
@@ -27,6 +34,10 @@ void repeat_edges(Instance *inst, size_t times);
 // another, so that the row between them is as wide as a row can be. The fewer nodes a row has, the more ends each has in the wide one.
 // There are no fewer pairs of such nodes than edges.
 void make_wide(Instance *inst, size_t upper, size_t lower, uint64_t seed);
+
+// Nor are these: as many nodes as a table may have, in so many layers, each node but those of the first with an edge from the layer above it;
+// of the other edges so many lead over two layers and the rest over one. All gaps are 1 and no two edges have the same ends.
+void make_layers(Instance *inst, size_t layers, size_t edges, size_t long_edges, uint64_t seed);
 
 // A number below k, from the sequence that the last instance was made from.
 size_t random_below(size_t k);

@@ -2,8 +2,8 @@
 #include "peer.h"
 
 int peer_is_here(void) { return 0; }
-int solve_by_peer(const Instance *inst, PeerAnswer *answer) {
-  (void)inst;
+int solve_by_peer(Network network, PeerAnswer *answer) {
+  (void)network;
   (void)answer;
   return 0;
 }

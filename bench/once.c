@@ -3,6 +3,7 @@
 //   once NODES          the shapes of that size
 //   once FILE..         the stored instances
 //   once charts NODES   the charts of the shapes of that size, cut to as many edges as are accepted
+//   once xs NODES       the x of the same, cut to as many edges as leave few enough points
 //   once soft NODES     our rows of the shapes of that size, with soft edges of which about half are turned
 //   once settled NODES  our rows of the same edges as kept or turned
 //   once short NODES    the shapes of that size, read, and written in their shortest form, which they have already
@@ -14,6 +15,7 @@
 #include "soft.h"
 #include "textbook.h"
 #include "write_call.h"
+#include "xs_call.h"
 #include <stdio.h>
 #include <stdlib.h>
 #include <string.h>
@@ -26,7 +28,7 @@ static void run_once(Instance *inst) {
   size_t length = write_table(inst, table);
   if (call_rows(table, length, rows, inst->nodes) != 0) exit(1);
   solve_by_textbook(inst, &textbook);
-  if (peer_is_here() && !solve_by_peer(inst, &peer)) exit(1);
+  if (peer_is_here() && !solve_by_peer(network_of(inst), &peer)) exit(1);
 }
 // The one call of a chart that is counted; it has a name of its own so that the trials are not.
 __attribute__((noinline)) void draw_once(const uint8_t *table, size_t length, ChartAnswer *answer) {
@@ -38,6 +40,16 @@ static void chart_once(Instance *inst) {
   static ChartAnswer answer;
   cut_to_accepted(inst);
   draw_once(table, write_table(inst, table), &answer);
+}
+// The same for x.
+__attribute__((noinline)) void place_once(const uint8_t *table, size_t length, uint16_t *xs) {
+  if (call_xs(table, length, xs) != 0) exit(1);
+}
+static void xs_once(Instance *inst) {
+  static uint8_t table[YUVATONDRO_MAX_STORED];
+  uint16_t xs[YUVATONDRO_MAX_XS];
+  cut_to_xs(inst);
+  place_once(table, write_table(inst, table), xs);
 }
 // The rows of a table of soft edges, or of the same edges as kept or turned.
 static void soft_once(const SoftInstance *soft, int settled) {
@@ -82,6 +94,7 @@ static int run_shapes(size_t nodes, void (*once)(Instance *)) {
   return shape_count() * SEEDS;
 }
 static int run_charts(size_t nodes) { return run_shapes(nodes, chart_once); }
+static int run_xs(size_t nodes) { return run_shapes(nodes, xs_once); }
 static int run_short(size_t nodes) { return run_shapes(nodes, short_once); }
 static int run_long(size_t nodes) { return run_shapes(nodes, long_once); }
 
@@ -96,7 +109,7 @@ static int run_files(int files, char **paths) {
 
 typedef int (*Run)(size_t nodes);
 static const struct { const char *name; Run run; } named[] = {
-  { "charts", run_charts }, { "soft", run_soft }, { "settled", run_settled }, { "short", run_short }, { "long", run_long },
+  { "charts", run_charts }, { "xs", run_xs }, { "soft", run_soft }, { "settled", run_settled }, { "short", run_short }, { "long", run_long },
 };
 static Run find_named(const char *name) {
   for (size_t k = 0; k < sizeof named / sizeof *named; k++) if (strcmp(name, named[k].name) == 0) return named[k].run;

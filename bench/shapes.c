@@ -149,6 +149,28 @@ void repeat_edges(Instance *g, size_t times) {
       g->edge[g->edges++] = (Edge){ g->edge[i].from, g->edge[i].to, between(1, 4), below(256) };
   shuffle(g);
 }
+static int is_there(const Instance *g, size_t from, size_t to) {
+  size_t i = 0;
+  while (i < g->edges && (g->edge[i].from != from || g->edge[i].to != to)) i++;
+  return i < g->edges;
+}
+// An edge to a node from any node so many layers above, where it is a new one.
+static void add_over(Instance *g, size_t width, size_t over, size_t to) {
+  size_t from = (to / width - over) * width + below(width);
+  if (!is_there(g, from, to)) g->edge[g->edges++] = (Edge){ from, to, 1, below(256) };
+}
+void make_layers(Instance *g, size_t layers, size_t edges, size_t long_edges, uint64_t seed) {
+  size_t width = YUVATONDRO_MAX_STEPS / layers;
+  state = seed * 1000003 + layers * 7919 + edges;
+  g->nodes = layers * width;
+  g->edges = 0;
+  for (size_t v = width; v < g->nodes; v++) add_over(g, width, 1, v);
+  while (g->edges < edges - long_edges) add_over(g, width, 1, between(width, g->nodes - 1));
+  while (g->edges < edges) add_over(g, width, 2, between(2 * width, g->nodes - 1));
+  renumber(g);
+  shuffle(g);
+  snprintf(g->name, MAX_NAME, "%zu layers %d", layers, (int)seed);
+}
 void make_wide(Instance *g, size_t upper, size_t lower, uint64_t seed) {
   size_t pairs = upper * lower;  // of which each is as likely as any other to have an edge
   state = seed * 1000003 + pairs * 7919 + upper;

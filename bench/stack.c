@@ -1,11 +1,13 @@
 // How deep each call goes into its stack:  stack FILE..
 // A call runs on a stack of its own that was painted before; the lowest byte that lost its paint tells the depth. What the way to
 // the call costs is found with a call that does nothing, and taken off. Inputs: the shapes of all sizes and the stored instances,
-// each as it is, with its edges cut until the chart is accepted, with a loop, with soft edges, and with its bytes cut short in many places.
+// each as it is, with its edges cut until the chart is accepted and until its points get an x, with a loop, with soft edges, and with its bytes
+// cut short in many places.
 // The loader looks up memset and memcpy at their first use, on the stack of the call that needs them. That is told apart, and done before.
 #define _XOPEN_SOURCE 700
 #include "rows_call.h"
 #include "sizes.h"
+#include "xs_call.h"
 #include "yuvatondro.h"
 #include <stdio.h>
 #include <string.h>
@@ -17,7 +19,7 @@ typedef struct { const Instance *inst; const uint8_t *table; size_t length; } In
 typedef struct { const char *name; uint64_t (*run)(const Input *); size_t depth; unsigned done, refused; } Call;
 
 static uint8_t shortest[YUVATONDRO_MAX_SHORTEST];
-static uint16_t rows[YUVATONDRO_MAX_STEPS], order[YUVATONDRO_MAX_POINTS];
+static uint16_t rows[YUVATONDRO_MAX_STEPS], order[YUVATONDRO_MAX_POINTS], xs[YUVATONDRO_MAX_XS];
 static size_t records[4 * YUVATONDRO_MAX_EDGES];
 
 static uint64_t run_nothing(const Input *in) { return in->length == 0; }
@@ -33,10 +35,11 @@ static uint64_t draw(const uint8_t *table, size_t length) {
   return yuvatondro_chart(table, length, rows, YUVATONDRO_MAX_STEPS, order, YUVATONDRO_MAX_POINTS);
 }
 static uint64_t run_chart(const Input *in) { return draw(in->table, in->length); }
+static uint64_t run_xs(const Input *in) { return yuvatondro_xs(in->table, in->length, xs, YUVATONDRO_MAX_XS); }
 
 static Call calls[] = { { "counts", run_counts, 0, 0, 0 }, { "name", run_name, 0, 0, 0 }, { "write", run_write, 0, 0, 0 },
                         { "convert", run_convert, 0, 0, 0 }, { "rows", run_rows, 0, 0, 0 }, { "records", run_records, 0, 0, 0 },
-                        { "chart", run_chart, 0, 0, 0 } };
+                        { "chart", run_chart, 0, 0, 0 }, { "xs", run_xs, 0, 0, 0 } };
 enum { CALLS = sizeof calls / sizeof *calls };
 
 static uint8_t stack[STACK];
@@ -94,6 +97,10 @@ static void measure_accepted(Instance inst) {
   }
   measure_all(&inst, table, length);
 }
+static void measure_placed(Instance inst) {
+  cut_to_xs(&inst);
+  measure_table(&inst);
+}
 static void measure_loop(Instance inst) {
   Edge *last = &inst.edge[inst.edges - 1];
   *last = (Edge){ inst.edge[0].to, inst.edge[0].from, 1, 1 };
@@ -112,6 +119,7 @@ static void measure_instance(const Instance *inst) {
   measure_table(inst);
   measure_cut_short(inst);
   measure_accepted(*inst);
+  measure_placed(*inst);
   measure_loop(*inst);
   measure_soft(*inst);
 }
