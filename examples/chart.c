@@ -40,12 +40,21 @@ static uint64_t ask_order(Chart *chart) {
   return YUVATONDRO_DONE;
 }
 
+/* The x of the points. A chart that has too many for them is none the worse for it: layout.c has places for any. */
+static uint64_t ask_xs(Chart *chart) {
+  uint64_t answer = yuvatondro_xs(chart->table, chart->table_len, chart->x, YUVATONDRO_MAX_XS);
+  chart->has_xs = yuvatondro_refusal(answer) == YUVATONDRO_DONE;
+  return yuvatondro_refusal(answer) == YUVATONDRO_LARGE_CHART ? YUVATONDRO_DONE : answer;
+}
+
 uint64_t ask_chart(Chart *chart, const uint8_t *table, size_t table_len) {
   chart->table = table;
   chart->table_len = table_len;
   chart->known = NOTHING;
+  chart->has_xs = 0;
   uint64_t answer = ask_steps(chart);
   if (yuvatondro_refusal(answer) == YUVATONDRO_DONE) answer = ask_rows(chart);
   if (yuvatondro_refusal(answer) == YUVATONDRO_DONE) answer = ask_order(chart);
+  if (yuvatondro_refusal(answer) == YUVATONDRO_DONE) answer = ask_xs(chart);
   return answer;
 }

@@ -57,6 +57,10 @@ typedef struct {
   unsigned point_merged[YUVATONDRO_MAX_POINTS]; /* of a dummy */
   Segment segment[MAX_SEGMENTS];
   unsigned below[MAX_SEGMENTS], below_start[MAX_ROWS + 1];
+
+  /* known with ORDER, but for a chart of more points than these */
+  int has_xs;
+  uint16_t x[YUVATONDRO_MAX_XS];
 } Chart;
 
 /* stored.c: whether the library takes the table only by the rule of tables stored before long forms of numbers were refused. Then its
@@ -78,8 +82,11 @@ unsigned length_of(const Chart *chart, unsigned edge);
 /* points.c: whether the points that the lines make, kept or turned, are those of the library's order; if so they are placed. */
 int place_points(Chart *chart);
 
-/* layout.c: a middle x for each point, from widths and the blank between neighbours in any unit; the least left side is 0. Gives the
- * greatest right side. */
+/* columns.c: how far from the left the middle of each point is drawn, from widths and the blank between neighbours in any unit; no left side
+ * is below 0. By the library's x, and where it has none as lay_out has it. Gives the greatest right side. */
+long find_middles(const Chart *chart, const long *width, long blank, long *middle);
+
+/* layout.c: the same without x. */
 long lay_out(const Chart *chart, const long *width, long blank, long *x);
 
 /* refusal.c: a sentence on what a refusal means and what to do about it. */

@@ -1,8 +1,9 @@
 /* The chart as a picture: a rounded box a step, with its number and name, in its row; a line for the edges of the same ends and firmness,
  * through its dummies, with its tip where the table says that they end; the numbers of the rows at the left. The line of soft edges is
  * dashed, and that of turned ones has a colour of its own and leads up. Lines are upright within a row and slant only between rows, so
- * none runs through a box, and two lines cross only where the library counts a crossing. Hovering over a box or a line tells more of it;
- * of a line, which edges it stands for, their largest gap and their weights added. */
+ * none runs through a box, and two lines cross only where the library counts a crossing. Between rows they are upright too where both ends
+ * stand at the same place, as all points with the same x do. Hovering over a box or a line tells more of it; of a line, which edges it stands
+ * for, their largest gap and their weights added. */
 #include "chart.h"
 
 /* All lengths are in tenths of a pixel. */
@@ -13,6 +14,7 @@ enum {
   BOX_HEIGHT = 300,
   BLANK = 180,      /* between neighbours in a row */
   PORT = 120,       /* between the ends of lines at a box, if its width allows */
+  UPRIGHT = 60,     /* between upright lines side by side, of which there are at most three; any box has room for them */
   ROW_GAP = 300,    /* between rows, at least */
   STEEP = 8,        /* the gap grows by this part of how far its widest line goes sideways, */
   SLANT_GAP = 1500, /* up to this */
@@ -48,25 +50,58 @@ static int is_left(const Chart *chart, const Segment *a, const Segment *b, int l
   return place_a < place_b || (place_a == place_b && a->merged < b->merged);
 }
 
+/* To which side a segment goes from one of its ends: -1 to the left, 1 to the right, 0 if it is upright. */
+static int side_of(const Picture *p, const Segment *s, int leaving) {
+  long from = p->x[leaving ? s->upper : s->lower], to = p->x[leaving ? s->lower : s->upper];
+  return (to > from) - (to < from);
+}
+
+/* Of the segments that leave a box, or that enter it, how many go to each side; and of those on the side of a given one, how many are left
+ * of it. */
+typedef struct {
+  long left, upright, right, before;
+} Ports;
+
+static Ports count_ports(const Chart *chart, const Picture *p, const Segment *s, int leaving) {
+  Ports ports = {0, 0, 0, 0};
+  for (unsigned i = 0; i < chart->segments; i++) {
+    const Segment *t = &chart->segment[i];
+    if (leaving ? t->upper != s->upper : t->lower != s->lower) continue;
+    int side = side_of(p, t, leaving);
+    ports.left += side < 0;
+    ports.upright += side == 0;
+    ports.right += side > 0;
+    ports.before += side == side_of(p, s, leaving) && is_left(chart, t, s, leaving);
+  }
+  return ports;
+}
+
+static long least(long a, long b) { return a < b ? a : b; }
+
+/* How far from the middle of a box a segment has its port. Upright ones are in the middle, and at the same distances from it at both ends,
+ * since all those of a box lead to one point. The others are beside them, or share the middle if there is none. */
+static long port_of(const Ports *ports, int side, long room) {
+  long half = ports->upright > 0 ? (ports->upright - 1) * UPRIGHT / 2 : 0, all = ports->left + ports->right;
+  if (side == 0) return ports->before * UPRIGHT - half;
+  if (ports->upright == 0) {
+    long span = least((all - 1) * PORT, room), before = ports->before + (side > 0 ? ports->left : 0);
+    return all < 2 ? 0 : span * before / (all - 1) - span / 2;
+  }
+  long beside = side < 0 ? ports->left : ports->right, span = least(beside * PORT, room / 2 - half);
+  return side < 0 ? -half - span * (beside - ports->before) / beside : half + span * (ports->before + 1) / beside;
+}
+
 /* Where a segment meets a point: the middle of a dummy, or the segment's own port at the foot or the head of a box. */
 static long meet(const Chart *chart, const Picture *p, const Segment *s, int leaving) {
   unsigned point = leaving ? s->upper : s->lower;
-  long ports = 0, before = 0;
   if (!is_step(chart, point)) return p->x[point];
-  for (unsigned i = 0; i < chart->segments; i++) {
-    const Segment *t = &chart->segment[i];
-    if ((leaving ? t->upper : t->lower) != point) continue;
-    ports++;
-    before += is_left(chart, t, s, leaving);
-  }
-  long room = p->width[point] - 2 * BOX_PADDING;
-  long span = (ports - 1) * PORT < room ? (ports - 1) * PORT : room;
-  return ports < 2 ? p->x[point] : p->x[point] - span / 2 + span * before / (ports - 1);
+  Ports ports = count_ports(chart, p, s, leaving);
+  return p->x[point] + port_of(&ports, side_of(p, s, leaving), p->width[point] - 2 * BOX_PADDING);
 }
 
 static void place_columns(const Chart *chart, Picture *p) {
   for (unsigned i = 0; i < chart->points; i++) p->width[i] = is_step(chart, i) ? box_width(chart, i) : 0;
-  p->right = LEFT + lay_out(chart, p->width, BLANK, p->x) + MARGIN;
+  p->right = LEFT + find_middles(chart, p->width, BLANK, p->x) + MARGIN;
   for (unsigned i = 0; i < chart->points; i++) p->x[i] += LEFT;
   for (unsigned i = 0; i < chart->segments; i++) {
     p->out[i] = meet(chart, p, &chart->segment[i], 1);
@@ -223,7 +258,9 @@ static void draw_step(FILE *out, const Chart *chart, const Picture *p, unsigned 
   unsigned row = chart->point_row[step];
   fprintf(out, "<g class=\"step\"><title>step %u: ", step);
   put_name(out, chart, step);
-  fprintf(out, ", row %u</title>", row);
+  fprintf(out, ", row %u", row);
+  if (chart->has_xs) fprintf(out, ", x %u", (unsigned)chart->x[step]);
+  fprintf(out, "</title>");
   fprintf(out, "<rect x=\"%.1f\" y=\"%.1f\" width=\"%.1f\" height=\"%.1f\" rx=\"7\"/>", px(p->x[step] - p->width[step] / 2),
           px(p->top[row]), px(p->width[step]), px(BOX_HEIGHT));
   fprintf(out, "<text x=\"%.1f\" y=\"%.1f\" stroke=\"none\" fill=\"#1f2d3a\"><tspan fill=\"#8a97a5\">%u</tspan> ", px(p->x[step]),

@@ -1,6 +1,6 @@
 /* The chart as text: a line a row, with its number. A step is its number and name in brackets; a bar with a number is a line that passes
  * by on its way down, and ^ with a number one that was turned, on its way up; the number is that of its first edge. Lines between
- * neighbouring rows are not drawn: the list of edges has them. */
+ * neighbouring rows are not drawn: the list of edges has them. Points with the same x have their middles below each other. */
 #include "chart.h"
 
 enum { UNITS = 16, LONGEST = 32 };
@@ -32,7 +32,7 @@ void draw_text(FILE *out, const Chart *chart) {
   char text[LONGEST];
   long width[YUVATONDRO_MAX_POINTS], x[YUVATONDRO_MAX_POINTS];
   for (unsigned i = 0; i < chart->points; i++) width[i] = UNITS * (long)point_text(chart, i, text);
-  lay_out(chart, width, UNITS, x);
+  find_middles(chart, width, UNITS, x);
   fprintf(out, "\nrow  chart\n");
   for (unsigned row = 0; row < chart->rows; row++) draw_row(out, chart, row, width, x);
 }

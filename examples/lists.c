@@ -13,15 +13,20 @@ static void list_numbers(FILE *out, const Chart *chart) {
   fprintf(out, "crossings %lu\n", chart->crossings);
 }
 
-/* A step's row is a dash where there is none. */
+/* A number, or a dash where there is none. */
+static void list_number(FILE *out, int is_known, unsigned number) {
+  if (is_known)
+    fprintf(out, "  %3u", number);
+  else
+    fprintf(out, "    -");
+}
+
 static void list_steps(FILE *out, const Chart *chart) {
-  fprintf(out, "\nstep  row  name\n");
+  fprintf(out, "\nstep  row    x  name\n");
   for (unsigned i = 0; i < chart->steps; i++) {
-    fprintf(out, "%4u  ", i);
-    if (chart->known < ROWS)
-      fprintf(out, "  -");
-    else
-      fprintf(out, "%3u", (unsigned)chart->row[i]);
+    fprintf(out, "%4u", i);
+    list_number(out, chart->known >= ROWS, chart->row[i]);
+    list_number(out, chart->has_xs, chart->has_xs ? chart->x[i] : 0);
     fprintf(out, "  %.*s\n", (int)chart->name_len[i], (const char *)chart->name[i]);
   }
 }
@@ -52,13 +57,24 @@ static void list_edges(FILE *out, const Chart *chart) {
   }
 }
 
-static void list_order(FILE *out, const Chart *chart) {
-  fprintf(out, "\nrow  points from left to right, the steps before %u, the dummies from there on\n", chart->steps);
+/* The points row by row, from left to right: each by its x, or by its number where no x are given. */
+static void list_order(FILE *out, const Chart *chart, const uint16_t *x) {
   for (unsigned row = 0; row < chart->rows; row++) {
     fprintf(out, "%3u ", row);
-    for (unsigned i = chart->row_start[row]; i < chart->row_start[row + 1]; i++) fprintf(out, " %u", (unsigned)chart->order[i]);
+    for (unsigned i = chart->row_start[row]; i < chart->row_start[row + 1]; i++) {
+      unsigned point = chart->order[i];
+      fprintf(out, " %u", x == NULL ? point : x[point]);
+    }
     fprintf(out, "\n");
   }
+}
+
+static void list_points(FILE *out, const Chart *chart) {
+  fprintf(out, "\nrow  points from left to right, the steps before %u, the dummies from there on\n", chart->steps);
+  list_order(out, chart, NULL);
+  if (!chart->has_xs) return;
+  fprintf(out, "\nrow  the x of these points\n");
+  list_order(out, chart, chart->x);
 }
 
 void list_chart(FILE *out, const Chart *chart) {
@@ -66,5 +82,5 @@ void list_chart(FILE *out, const Chart *chart) {
   list_numbers(out, chart);
   list_steps(out, chart);
   list_edges(out, chart);
-  if (chart->known == ORDER) list_order(out, chart);
+  if (chart->known == ORDER) list_points(out, chart);
 }

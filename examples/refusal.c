@@ -25,12 +25,14 @@ static const char *const sentences[] = {
     [YUVATONDRO_SHORT_BUFFER] = "this program lent too small a buffer; that is a mistake in the program, not in the table",
     [YUVATONDRO_NO_STEP] = "this program asked for a step that is not there; that is a mistake in the program, not in the table",
     [YUVATONDRO_BAD_FIRMNESS] = "an edge is neither must nor soft; correct its firmness, 0 or 1",
+    [YUVATONDRO_LARGE_CHART] = "the chart has more than # points, for which there are no x; lay it out without, or split the alignment",
 };
 
 static unsigned limit_of(unsigned refusal) {
   switch (refusal) {
     case YUVATONDRO_MANY_STEPS: return YUVATONDRO_MAX_STEPS;
     case YUVATONDRO_MANY_EDGES: return YUVATONDRO_MAX_EDGES;
+    case YUVATONDRO_LARGE_CHART: return YUVATONDRO_MAX_XS;
     default: return YUVATONDRO_MAX_POINTS;
   }
 }

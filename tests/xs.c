@@ -3,8 +3,8 @@
  *   xs check   each table has ` -> ` behind it and what is known of its chart: `points` and how many there are in each row, or `refused` as
  *              above. Holds the call to that, and its x to the order of yuvatondro_chart. Prints what became of how many tables
  *   xs limit   reads nothing and prints the most points that the header has the call take
- * Each table is tried with the largest buffer, the exact one, a longer one and shorter ones, all with guards round them. Ends with status 1 at
- * the first surprise, and with 2 if none of these is named. */
+ * Each table is tried with the largest buffer, the exact one, a longer one and shorter ones, all with guards round them. Ends with status 1
+ * at the first surprise, and with 2 if none of these is named. */
 #include <stdio.h>
 #include <stdlib.h>
 #include <string.h>
