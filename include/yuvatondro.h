@@ -112,10 +112,9 @@ static inline unsigned long yuvatondro_crossings(uint64_t chart) { return (unsig
  * some point of each chart that has points stands at 0, and no x is as large as the number of points.
  *
  * To draw with them, call yuvatondro_chart too: x goes to the right, rows go down. The row of a step stands in its `rows`, and the dummies
- * of a line stand in the rows between those of its two ends, one in each. A column of a drawing has to be as wide as the widest thing that
- * it draws at a point, since an x is a number of columns and knows no widths; then nothing overlaps, and a segment whose ends have the same
- * x is upright. Lines of weight 0 cost nothing, and so are straight only by chance. Charts of more than YUVATONDRO_MAX_XS points are left
- * to the host: their order is what yuvatondro_chart gives for all charts. */
+ * of a line stand in the rows between those of its two ends, one in each. An x counts columns and knows no widths: where all columns are as
+ * wide as the widest thing that is drawn at a point nothing overlaps, and a segment whose ends have the same x is upright. A line of weight
+ * 0 costs nothing, and so is straight only by chance. A chart of more than YUVATONDRO_MAX_XS points has its rows and order, but no x. */
 uint64_t yuvatondro_xs(const uint8_t *table, size_t table_len, uint16_t *xs, size_t xs_len);
 
 /* The shortest form of a table, to `out`: the same steps and edges in the same order, every number in its fewest bytes, edition 1 if no
