@@ -1,8 +1,8 @@
 // How deep each call goes into its stack:  stack FILE..
 // A call runs on a stack of its own that was painted before; the lowest byte that lost its paint tells the depth. What the way to
 // the call costs is found with a call that does nothing, and taken off. Inputs: the shapes of all sizes and the stored instances,
-// each as it is, with its edges cut until the chart is accepted and until its points get an x, with a loop, with soft edges, and with its bytes
-// cut short in many places.
+// each as it is, with its edges cut until the chart is accepted and until its points get an x, with a loop, with soft edges, and with its
+// bytes cut short in many places.
 // The loader looks up memset and memcpy at their first use, on the stack of the call that needs them. That is told apart, and done before.
 #define _XOPEN_SOURCE 700
 #include "rows_call.h"

@@ -53,8 +53,8 @@ int build_x_network(const Instance *merged, const ChartAnswer *a, XNetwork *x) {
   return 1;
 }
 
-// With the nodes of segments these are rows of the network, which are checked as such. The lowest row of a segment's node is the lower x of its
-// ends if it has a weight, and else 0, since then nothing holds it.
+// With the nodes of segments these are rows of the network, which are checked as such. The lowest row of a segment's node is the lower x of
+// its ends if it has a weight, and else 0, since then nothing holds it.
 const char *find_x_fault(const XNetwork *x, const uint16_t *xs, const long *flow, long total) {
   uint16_t rows[MAX_X_NODES];
   memcpy(rows, xs, x->points * sizeof *rows);

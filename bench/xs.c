@@ -149,7 +149,7 @@ static void print_case(const Case *c) {
 static void print_group(const Group *g) {
   Ratios ratios[LIMITS] = { 0 };
   printf("\n%s: %zu tables of %d to %d points, %zu with fewer left out\n", g->title, g->count, FEWEST_POINTS, YUVATONDRO_MAX_XS, g->skipped);
-  printf("%-24s %5s %5s %6s %8s | in turn (us): x, chart, LEMON | x over LEMON, x over the chart\n", "", "edges", "lines", "points", "segments");
+  printf("%-24s %5s %5s %6s %8s | in turn (us): x, chart, LEMON | x over LEMON, over the chart\n", "", "edges", "lines", "points", "segments");
   for (size_t i = 0; i < g->count; i++) print_case(&g->cases[i]);
   add_ratios(ratios, g);
   print_ratios(ratios);
