@@ -1,4 +1,4 @@
-//! The seven calls as a C caller meets them: packed answers, lent buffers.
+//! The eight calls as a C caller meets them: packed answers, lent buffers.
 
 use crate::chart::{draw_chart, Chart};
 use crate::records::{rows_of_records, Record};
@@ -6,6 +6,7 @@ use crate::refusal::Refusal;
 use crate::shortest::{said, shortest};
 use crate::soft::rows_of_table;
 use crate::table::{read_stored, read_table, Table};
+use crate::xs::find_xs;
 
 /// The refusal's number in the low byte; a loop's step in the byte above.
 pub fn pack_refusal(refusal: Refusal) -> u64 {
@@ -40,6 +41,11 @@ pub fn records(steps: usize, records: &[Record], buffer: &mut [u16]) -> u64 {
 pub fn chart(bytes: &[u8], rows: &mut [u16], order: &mut [u16]) -> u64 {
     let chart = read_table(bytes).and_then(|table| draw_chart(&table));
     pack(hand_out_chart(&chart, rows, order))
+}
+
+pub fn xs(bytes: &[u8], buffer: &mut [u16]) -> u64 {
+    let chart = read_table(bytes).and_then(|table| draw_chart(&table));
+    pack(hand_out_xs(&chart.and_then(|chart| find_xs(&chart)), buffer))
 }
 
 pub fn write(bytes: &[u8], buffer: &mut [u8]) -> u64 {
@@ -80,6 +86,12 @@ pub fn hand_out_chart(chart: &Result<Chart, Refusal>, rows: &mut [u16], order: &
         *entry = point;
     }
     Ok(pack_chart(chart.point_count(), chart.total, chart.crossings))
+}
+
+/// To the entries as rows are, and then how many there are.
+pub fn hand_out_xs(xs: &Result<Vec<usize>, Refusal>, buffer: &mut [u16]) -> Result<u64, Refusal> {
+    hand_out_rows(xs, buffer)?;
+    Ok((xs.as_ref().map_or(0, Vec::len) as u64) << 8)
 }
 
 pub fn hand_out_bytes(written: &[u8], buffer: &mut [u8]) -> Result<u64, Refusal> {

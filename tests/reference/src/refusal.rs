@@ -18,6 +18,8 @@ pub enum Refusal {
     ShortBuffer,
     NoSuchStep,
     BadFirmness,
+    /// More points than a chart that gets x may have.
+    LargeChart,
 }
 
 impl Refusal {
@@ -38,6 +40,7 @@ impl Refusal {
             Refusal::ShortBuffer => 13,
             Refusal::NoSuchStep => 14,
             Refusal::BadFirmness => 15,
+            Refusal::LargeChart => 16,
         }
     }
 

@@ -1,4 +1,5 @@
-//! The stored tables.
+//! The stored tables. Not every test needs all of this.
+#![allow(dead_code)]
 
 /// Each table with what `chart` prints for it.
 pub fn charts() -> Vec<(Vec<u8>, String)> {
