@@ -6,7 +6,7 @@ use std::env;
 use std::path::Path;
 use std::process::Command;
 
-const CALLS: [&str; 7] = ["counts", "name", "rows", "records", "chart", "write", "convert"];
+const CALLS: [&str; 8] = ["counts", "name", "rows", "records", "chart", "write", "convert", "xs"];
 
 fn run(program: &str, arguments: &[String]) -> String {
     let output = Command::new(program).args(arguments).output().expect("the tool starts");

@@ -35,7 +35,7 @@ impl Network {
     /// Carries as much as can be. The nodes that the source still reaches are the smallest side of a least cut.
     pub fn fill(&mut self, source: usize, sink: usize) -> Vec<bool> {
         loop {
-            let via = self.search(source);
+            let via = self.search(source, sink);
             let Some(path) = self.path(&via, source, sink) else {
                 return (0..via.len()).map(|node| node == source || via[node].is_some()).collect();
             };
@@ -52,12 +52,12 @@ impl Network {
         self.arcs[arc].capacity as i64 - self.arcs[arc].room as i64
     }
 
-    /// By which arc each node is reached first from the source, nearest nodes first.
-    fn search(&self, source: usize) -> Vec<Option<usize>> {
+    /// By which arc each node is reached first from the source, nearest nodes first, until the sink is reached.
+    fn search(&self, source: usize, sink: usize) -> Vec<Option<usize>> {
         let mut via = vec![None; self.leaving.len()];
         let mut met = vec![source];
         let mut next = 0;
-        while let Some(&node) = met.get(next) {
+        while let Some(&node) = met.get(next).filter(|_| via[sink].is_none()) {
             for &arc in &self.leaving[node] {
                 let Arc { to, room, .. } = self.arcs[arc];
                 if room > 0 && to != source && via[to].is_none() {

@@ -15,6 +15,7 @@ mod shortest;
 mod soft;
 mod spoiled;
 mod tall;
+mod xs;
 
 use reference::random::Random;
 
@@ -92,6 +93,11 @@ pub const FAMILIES: &[Family] = &[
     endless("wide point limit", 100, points::wide_near_limit),
     endless("repeated point limit", 120, points::repeated_near_limit),
     endless("most segments", 60, points::most_segments),
+    endless("x point limit", 300, points::near_x_limit),
+    endless("equal lines", 600, xs::equal_lines),
+    endless("unlike rows", 400, xs::unlike_rows),
+    endless("heavy pieces", 800, xs::heavy_pieces),
+    endless("among pass points", 1000, xs::among_pass_points),
     endless("tall", 200, tall::tall),
     endless("tall soft", 120, tall::tall_soft),
     endless("old limits", 200, old::within),

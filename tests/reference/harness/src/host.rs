@@ -29,10 +29,12 @@ mod linked {
         pub fn yuvatondro_write(table: *const u8, table_len: usize, out: *mut u8, out_len: usize) -> u64;
         #[cfg(host_convert)]
         pub fn yuvatondro_convert(table: *const u8, table_len: usize, out: *mut u8, out_len: usize) -> u64;
+        #[cfg(host_xs)]
+        pub fn yuvatondro_xs(table: *const u8, table_len: usize, xs: *mut u16, xs_len: usize) -> u64;
     }
 }
 
-pub const CALLS: [&str; 7] = ["counts", "name", "rows", "records", "chart", "write", "convert"];
+pub const CALLS: [&str; 8] = ["counts", "name", "rows", "records", "chart", "write", "convert", "xs"];
 pub const COUNTS: usize = 0;
 pub const NAME: usize = 1;
 pub const ROWS: usize = 2;
@@ -40,6 +42,7 @@ pub const RECORDS: usize = 3;
 pub const CHART: usize = 4;
 pub const WRITE: usize = 5;
 pub const CONVERT: usize = 6;
+pub const XS: usize = 7;
 
 /// Some of the calls.
 pub type Calls = [bool; CALLS.len()];
@@ -53,6 +56,7 @@ pub fn exported() -> Calls {
         cfg!(host_chart),
         cfg!(host_write),
         cfg!(host_convert),
+        cfg!(host_xs),
     ]
 }
 
@@ -114,5 +118,13 @@ pub fn convert(table: Bytes, out: BytesMut) -> u64 {
     #[cfg(host_convert)]
     return unsafe { linked::yuvatondro_convert(table.0, table.1, out.0, out.1) };
     #[cfg(not(host_convert))]
+    unreachable!()
+}
+
+#[allow(unused_variables)]
+pub fn xs(table: Bytes, xs: EntriesMut) -> u64 {
+    #[cfg(host_xs)]
+    return unsafe { linked::yuvatondro_xs(table.0, table.1, xs.0, xs.1) };
+    #[cfg(not(host_xs))]
     unreachable!()
 }

@@ -4,6 +4,7 @@ mod kept;
 mod lists;
 mod printed;
 mod written;
+mod xs;
 
 use std::fmt::Display;
 
@@ -14,7 +15,7 @@ use reference::refusal::Refusal;
 use reference::soft::{place_table, Placed};
 use reference::table::read_table;
 
-use crate::host::{self, Calls, CALLS, CHART, COUNTS, NAME, ROWS};
+use crate::host::{self, Calls, CALLS, CHART, COUNTS, NAME, ROWS, XS};
 use crate::lent::Arena;
 use crate::program::Programs;
 use crate::shapes::STEPS;
@@ -88,22 +89,26 @@ impl Judge {
                 self.run_name(bytes, step, expected);
             }
         }
-        if self.wanted[ROWS] || self.wanted[CHART] {
+        if self.wanted[ROWS] || self.wants_chart() {
             self.judge_placed(bytes, table.and_then(|table| place_table(&table)));
         }
         self.judge_written(bytes);
         self.sample_listing(bytes);
     }
 
-    /// The chart call and the program alone, for tables that are new in the order of their points only.
+    /// The calls on a whole chart and the program alone, for tables that are new in the order of their points only.
     pub fn judge_order(&mut self, bytes: &[u8]) {
-        if self.wanted[CHART] {
-            self.judge_chart(bytes, &read_table(bytes).and_then(|table| draw_chart(&table)));
+        if self.wants_chart() {
+            self.judge_drawn(bytes, &read_table(bytes).and_then(|table| draw_chart(&table)));
         }
         self.sample_listing(bytes);
     }
 
-    /// Rows and chart, whose rows are worked out once.
+    fn wants_chart(&self) -> bool {
+        self.wanted[CHART] || self.wanted[XS]
+    }
+
+    /// Rows, chart and x, whose rows are worked out once.
     fn judge_placed(&mut self, bytes: &[u8], placed: Result<Placed, Refusal>) {
         if self.wanted[ROWS] {
             let rows = rows_of(&placed);
@@ -113,8 +118,17 @@ impl Judge {
                 self.compare_rows(bytes, &rows, len);
             }
         }
+        if self.wants_chart() {
+            self.judge_drawn(bytes, &placed.and_then(draw_placed));
+        }
+    }
+
+    fn judge_drawn(&mut self, bytes: &[u8], chart: &Result<Chart, Refusal>) {
         if self.wanted[CHART] {
-            self.judge_chart(bytes, &placed.and_then(draw_placed));
+            self.judge_chart(bytes, chart);
+        }
+        if self.wanted[XS] {
+            self.judge_xs(bytes, chart);
         }
     }
 
@@ -131,7 +145,7 @@ impl Judge {
         }
     }
 
-    /// Rows and chart with every pair of these buffer lengths, as differences from what is needed; writing with each.
+    /// Rows and chart with every pair of these buffer lengths, as differences from what is needed; x and writing with each.
     pub fn judge_buffers(&mut self, bytes: &[u8], offsets: &[isize]) {
         self.judge_written_buffers(bytes, offsets);
         let placed = read_table(bytes).and_then(|table| place_table(&table));
@@ -139,6 +153,9 @@ impl Judge {
         let chart = placed.and_then(draw_placed);
         let points = chart.as_ref().map_or(0, Chart::point_count);
         let needed = rows.as_ref().map_or(0, Vec::len);
+        if self.wanted[XS] {
+            self.judge_xs_buffers(bytes, &chart, offsets);
+        }
         for &more_rows in offsets {
             let rows_len = needed.saturating_add_signed(more_rows);
             if self.wanted[ROWS] {

@@ -3,12 +3,15 @@
 use std::time::Duration;
 
 use reference::chart::Chart;
-use reference::order::PASSES;
+use reference::forces::Piece;
+use reference::order::{positions, PASSES};
 use reference::points::MAX_POINTS;
+use reference::refusal::Refusal;
+use reference::xs::pieces_of;
 
 use crate::host::{CALLS, CHART, CONVERT, RECORDS, WRITE};
 
-const REFUSALS: usize = 15;
+const REFUSALS: usize = 16;
 /// The refusals that the program `chart` gives, and those of the program `convert`.
 const LISTED: [usize; 13] = [1, 2, 3, 4, 5, 6, 7, 8, 9, 10, 11, 12, 15];
 const CONVERTED: [usize; 11] = [1, 2, 3, 4, 5, 6, 7, 8, 9, 10, 15];
@@ -30,12 +33,25 @@ pub struct Tally {
     merged: (u64, usize, u64),
     /// Tables with rows that no byte holds, and the highest row of all.
     tall: (u64, usize),
+    x: XTally,
     /// By the call, tables written, and those of them that came in more bytes.
     written: [(u64, u64); CALLS.len()],
     /// Time spent in each call.
     spent: [Duration; CALLS.len()],
     /// For each call the longest time, with family and group.
     slowest: [(Duration, &'static str, usize); CALLS.len()],
+}
+
+/// What became of charts in the call for x.
+#[derive(Clone, Copy, Default)]
+struct XTally {
+    /// Charts that got x, and those that have too many points for it.
+    charts: u64,
+    refused: u64,
+    /// Charts with a piece that is not straight, and with a point that is not as far left as its row allows.
+    leaning: u64,
+    moved: u64,
+    largest: usize,
 }
 
 impl Tally {
@@ -50,6 +66,7 @@ impl Tally {
             turned: (0, 0),
             merged: (0, 0, 0),
             tall: (0, 0),
+            x: XTally::default(),
             written: [(0, 0); CALLS.len()],
             spent: [Duration::ZERO; CALLS.len()],
             slowest: [(Duration::ZERO, "", 0); CALLS.len()],
@@ -79,6 +96,15 @@ impl Tally {
     pub fn note_rows(&mut self, rows: &[usize]) {
         let highest = rows.iter().copied().max().unwrap_or(0);
         self.tall = (self.tall.0 + u64::from(highest > u8::MAX as usize), self.tall.1.max(highest));
+    }
+
+    pub fn note_xs(&mut self, chart: &Chart, xs: &Result<Vec<usize>, Refusal>) {
+        let Ok(xs) = xs else { return self.x.refused += 1 };
+        let leans = |piece: &Piece| xs[piece.ends.0] != xs[piece.ends.1];
+        self.x.charts += 1;
+        self.x.leaning += u64::from(pieces_of(chart).iter().any(leans));
+        self.x.moved += u64::from(*xs != positions(&chart.order));
+        self.x.largest = self.x.largest.max(xs.iter().copied().max().unwrap_or(0));
     }
 
     pub fn note_written(&mut self, call: usize, table_len: usize, shortest: usize) {
@@ -115,6 +141,11 @@ impl Tally {
         println!("charts with repeated edges: {charts}, repeated edges in them: {several}");
         println!("charts of more than {MAX_POINTS} points if each edge were drawn by itself: {beyond}");
         println!("tables with rows above {}: {}, highest row {}", u8::MAX, self.tall.0, self.tall.1);
+        let XTally { charts, refused, leaning, moved, largest } = self.x;
+        println!(
+            "charts with x: {charts}, of them with pieces that are not straight: {leaning}, with points past their"
+        );
+        println!("positions: {moved}; largest x {largest}; charts of too many points for x: {refused}");
         for (call, what) in [(WRITE, "written"), (CONVERT, "converted")] {
             let (tables, shorter) = self.written[call];
             println!("tables {what}: {tables}, of them shorter than they came: {shorter}");

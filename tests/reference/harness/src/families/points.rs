@@ -1,10 +1,11 @@
-//! Charts of very nearly 1,024 points, for the most part of exactly 1,024 or 1,025.
+//! Charts of very nearly 1,024 points, for the most part of exactly 1,024 or 1,025; and of very nearly 128, the most that get x.
 
 use reference::points::MAX_POINTS;
 use reference::random::Random;
 use reference::soft::turn;
 use reference::table::{Edge, TableEdge};
 use reference::writer::{write_table, Draft};
+use reference::xs::MOST_POINTS;
 
 use crate::drafts::{draft, draft_of};
 use crate::judge::Judge;
@@ -51,6 +52,19 @@ pub fn repeated_near_limit(judge: &mut Judge, random: &mut Random, group: usize)
         (random.between(links + 1, STEPS), links)
     };
     let (steps, edges) = Plan { target: MAX_POINTS + group / 2 % 2, kinds, repeats: 9, size }.find(random);
+    judge_near(judge, group, &draft_of(random, steps, &edges));
+}
+
+/// The most points that get x, and one more; with every kind of edges, and with must edges alone.
+pub fn near_x_limit(judge: &mut Judge, random: &mut Random, group: usize) {
+    let (most, beyond) = (MOST_POINTS, MOST_POINTS + 1);
+    let target = random.pick(&[most, most, most, beyond, beyond, most - 1, beyond + 1, beyond + 30]);
+    let kinds: &[Kind] = if group % 2 == 0 { &ALL_KINDS } else { &[Kind::Must] };
+    let size: Size = |random| {
+        let links = random.between(4, 24);
+        (random.between(links + 1, random.clone().pick(&[30, 60, STEPS])), links)
+    };
+    let (steps, edges) = Plan { target, kinds, repeats: group % 3, size }.find(random);
     judge_near(judge, group, &draft_of(random, steps, &edges));
 }
 
