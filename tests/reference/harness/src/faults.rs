@@ -39,6 +39,9 @@ pub fn run(only: &str) -> i32 {
 /// Starts of the names of variants that only the chart call can show.
 const DRAWN: [&str; 9] = ["points", "start", "means", "ties", "loose", "passes", "best", "crossings", "merged"];
 
+/// Those that give points other numbers, which two calls show.
+const NUMBERED: [&str; 4] = ["points-by-row", "points-rising-up", "points-turned-up", "points-turned-last"];
+
 /// The options of the runs that have to catch a variant. Three calls hand out rows, and wrong rows are to be caught in
 /// each; two of them have soft edges. Two calls write the shortest form, one of them of stored tables.
 fn trials(fault: &str) -> Vec<Vec<&'static str>> {
@@ -59,6 +62,12 @@ fn trials(fault: &str) -> Vec<Vec<&'static str>> {
     }
     if fault.starts_with("write-") {
         return each_alone(&["write", "convert"]);
+    }
+    if fault.starts_with("xs") {
+        return each_alone(&["xs"]);
+    }
+    if NUMBERED.contains(&fault) {
+        return each_alone(&["chart", "xs"]);
     }
     if fault.starts_with("soft") {
         return each_alone(&["rows", "chart"]);

@@ -2,6 +2,7 @@
 //! STANDIN_FAULT chooses a deliberately wrong variant, so that the comparison itself can be tried.
 
 mod answers;
+mod answers_xs;
 pub mod fault;
 pub mod wrong_chart;
 mod wrong_entries;
@@ -13,6 +14,7 @@ mod wrong_soft;
 mod wrong_spelling;
 pub mod wrong_table;
 mod wrong_writing;
+mod wrong_xs;
 
 use std::slice::{from_raw_parts, from_raw_parts_mut};
 
@@ -64,4 +66,9 @@ pub unsafe extern "C" fn yuvatondro_write(table: *const u8, table_len: usize, ou
 #[no_mangle]
 pub unsafe extern "C" fn yuvatondro_convert(table: *const u8, table_len: usize, out: *mut u8, out_len: usize) -> u64 {
     unsafe { answers::convert(from_raw_parts(table, table_len), from_raw_parts_mut(out, out_len)) }
+}
+
+#[no_mangle]
+pub unsafe extern "C" fn yuvatondro_xs(table: *const u8, table_len: usize, xs: *mut u16, xs_len: usize) -> u64 {
+    unsafe { answers_xs::xs(from_raw_parts(table, table_len), from_raw_parts_mut(xs, xs_len)) }
 }
