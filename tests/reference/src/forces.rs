@@ -1,5 +1,5 @@
-//! Why x are the answer, checked without trust in how they were found: each piece pulls its ends towards each other, neighbours push
-//! each other apart, and every point stays where it is.
+//! Why x are the answer, checked without trust in how they were found: each piece pulls its ends towards each other, neighbours
+//! push each other apart, and every point stays where it is.
 
 use crate::order::Order;
 

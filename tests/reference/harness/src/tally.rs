@@ -142,10 +142,8 @@ impl Tally {
         println!("charts of more than {MAX_POINTS} points if each edge were drawn by itself: {beyond}");
         println!("tables with rows above {}: {}, highest row {}", u8::MAX, self.tall.0, self.tall.1);
         let XTally { charts, refused, leaning, moved, largest } = self.x;
-        println!(
-            "charts with x: {charts}, of them with pieces that are not straight: {leaning}, with points past their"
-        );
-        println!("positions: {moved}; largest x {largest}; charts of too many points for x: {refused}");
+        println!("charts with x: {charts}, largest x {largest}; charts of too many points for x: {refused}");
+        println!("charts with pieces that are not straight: {leaning}, with points past their positions: {moved}");
         for (call, what) in [(WRITE, "written"), (CONVERT, "converted")] {
             let (tables, shorter) = self.written[call];
             println!("tables {what}: {tables}, of them shorter than they came: {shorter}");
