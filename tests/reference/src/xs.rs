@@ -55,6 +55,11 @@ pub fn lowest_xs(order: &Order, pieces: &[Piece]) -> Vec<usize> {
     }
 }
 
+/// Whether x are the answer, whoever found them: if they have the least sum, the forces are balanced.
+pub fn judge_xs(order: &Order, pieces: &[Piece], xs: &[usize]) -> Result<(), &'static str> {
+    check(order, pieces, &best_move(order, pieces, xs).1, xs)
+}
+
 /// The smallest set of points that lowers the sum most, as the smaller side of a least cut; and the forces that the flow stands
 /// for, which are balanced if no set lowers the sum.
 fn best_move(order: &Order, pieces: &[Piece], xs: &[usize]) -> (Vec<usize>, Forces) {

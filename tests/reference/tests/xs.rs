@@ -9,7 +9,7 @@ use reference::random::Random;
 use reference::refusal::Refusal;
 use reference::table::{read_table, Edge, Kind, TableEdge};
 use reference::writer::{write_table, Draft};
-use reference::xs::{find_xs, lowest_xs, pieces_of, MOST_POINTS};
+use reference::xs::{find_xs, judge_xs, lowest_xs, pieces_of, MOST_POINTS};
 
 mod stored;
 
@@ -83,6 +83,33 @@ fn all_choices() {
     agree(5, 5, 5, 800);
     agree(6, 6, 5, 1000);
     agree(7, 7, 6, 60);
+}
+
+/// Of any x, best or not, the answer alone passes.
+#[test]
+fn any_x_are_judged() {
+    let mut random = Random::new(8);
+    let (mut dearer, mut higher) = (0, 0);
+    for _ in 0..3000 {
+        let points = random.between(1, random.clone().pick(&[4, 8, 30]));
+        let (order, pieces) = random_chart(&mut random, points);
+        let lowest = lowest_xs(&order, &pieces);
+        assert_eq!(judge_xs(&order, &pieces, &lowest), Ok(()));
+        for _ in 0..10 {
+            // For the most part a few points moved by one.
+            let rarely = random.pick(&[1, 2, points]);
+            let mut xs = lowest.clone();
+            xs.iter_mut().filter(|_| random.one_in(rarely)).for_each(|x| *x += 1);
+            if random.one_in(3) {
+                xs.iter_mut().filter(|_| random.one_in(rarely)).for_each(|x| *x = x.saturating_sub(1));
+            }
+            let judged = judge_xs(&order, &pieces, &xs);
+            assert_eq!(judged.is_ok(), xs == lowest, "{xs:?} for {lowest:?}: {order:?}, {pieces:?}");
+            dearer += usize::from(sum(&pieces, &xs) > sum(&pieces, &lowest));
+            higher += usize::from(judged == Err("a point could be lower"));
+        }
+    }
+    assert!(dearer > 5000 && higher > 3000, "{dearer} x with a larger sum, {higher} best but not the lowest");
 }
 
 /// From, to, gap, weight, and whether it is soft.

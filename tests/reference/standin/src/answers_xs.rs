@@ -35,7 +35,8 @@ fn judge_large(chart: &Chart, entries: usize) -> Result<(), Refusal> {
     let most = match () {
         _ if on("xs-16-above-129") => MOST_POINTS + 1,
         _ if on("xs-16-at-128") => MOST_POINTS - 1,
-        _ if on("xs-16-by-steps") && chart.rows.len() <= MOST_POINTS => MAX_POINTS,
+        // No table has more steps than points may get x.
+        _ if on("xs-16-by-steps") => MAX_POINTS,
         _ => MOST_POINTS,
     };
     match () {
