@@ -4,6 +4,7 @@ use reference::random::Random;
 use reference::soft::turn;
 use reference::table::{Edge, TableEdge, LIMITS};
 use reference::writer::write_table;
+use reference::xs::MOST_POINTS;
 
 use crate::drafts::draft_of;
 use crate::judge::Judge;
@@ -52,8 +53,17 @@ pub fn equal_lines(judge: &mut Judge, random: &mut Random, _: usize) {
     judge_edges(judge, random, 2 + 2 * lines, edges);
 }
 
-/// Few points beside a row of up to 90, each joined with some of it, so that x are large.
+/// Few steps beside a wide row, of other steps or of pass points, so that x are large.
 pub fn unlike_rows(judge: &mut Judge, random: &mut Random, group: usize) {
+    let (steps, edges) = match group % 4 {
+        3 => wide_between(random),
+        side => wide_beside(random, side % 2 == 0),
+    };
+    judge_edges(judge, random, steps, edges);
+}
+
+/// Up to 5 steps below a row of up to 90 steps, or above it, each joined with some of these.
+fn wide_beside(random: &mut Random, below: bool) -> (usize, Vec<TableEdge>) {
     let wide = random.between(10, STEPS - 6);
     let few = random.between(1, 5);
     let weights = random.pick(&[1, 3, HEAVIEST as usize]);
@@ -66,10 +76,28 @@ pub fn unlike_rows(judge: &mut Judge, random: &mut Random, group: usize) {
             let other = (near + random.below(reach)).min(wide - 1);
             let gap = if random.one_in(8) { 2 } else { 1 };
             let weight = random.between(0, weights) as u32;
-            edges.push(if group % 2 == 0 { edge(other, step, gap, weight) } else { edge(step, other, gap, weight) });
+            edges.push(if below { edge(other, step, gap, weight) } else { edge(step, other, gap, weight) });
         }
     }
-    judge_edges(judge, random, wide + few, edges);
+    (wide + few, edges)
+}
+
+/// A row of pass points alone between few steps, for the most part with as many points as may get x: must lines between all
+/// pairs of steps, and soft ones along them and against them.
+fn wide_between(random: &mut Random) -> (usize, Vec<TableEdge>) {
+    let (upper, lower) = (random.between(2, 7), random.between(2, 7));
+    let steps = upper + lower;
+    let pairs = (0..upper).flat_map(|up| (upper..steps).map(move |low| (up, low)));
+    let weights = random.pick(&[1, 3, HEAVIEST as usize]);
+    let mut edges: Vec<TableEdge> =
+        pairs.map(|(up, low)| edge(up, low, 2, random.between(0, weights) as u32)).collect();
+    let along = edges.iter().map(|must| TableEdge { soft: true, ..*must });
+    let against = edges.iter().map(|must| TableEdge { edge: turn(must.edge), soft: true });
+    let mut beside: Vec<TableEdge> = along.chain(against).collect();
+    random.shuffle(&mut beside);
+    edges.extend(beside);
+    edges.truncate(MOST_POINTS - steps + random.pick(&[0, 0, 0, 1]));
+    (steps, edges)
 }
 
 /// By turns lines that nearly balance each other, and two of which one is as heavy as can be.
