@@ -14,8 +14,8 @@ use Rattle.buffers.specs.Lists.{Below}
 use Rattle.buffers.specs.Written.{Stored}
 use Rattle.passes.specs.Laid.{segmentsIn}
 use Rattle.fewest.specs.Fewest.{Drawing, bestOrder, drawingOf}
-use Rattle.drawing.specs.Drawing.{Drawable, DrawnIs}
-use Rattle.drawing.specs.Rooms.{segmentRoom, Sketched, LaidRoom}
+use Rattle.rooms.specs.Rooms.{segmentRoom, Sketched, DrawnIs}
+use Rattle.drawing.specs.Drawing.{Drawable, LaidRoom}
 use Rattle.buffers.proofs.WriteLaws.{written-length, written-take}
 use Rattle.points.proofs.EdgeLaws.{edges-length}
 use Rattle.points.proofs.PointLaws.{points-length, segments-length}
@@ -23,7 +23,7 @@ use Rattle.points.proofs.NeighbourLaws.{chart-leads, uppers-in, lowers-in, neig
 use Rattle.points.proofs.FewEndsLaws.{uppers-few, lowers-few}
 use Rattle.passes.proofs.PassLaws.{segments-in}
 use Rattle.fewest.proofs.CompleteLaws.{points-below}
-use Rattle.drawing.proofs.RoomLaws.{zeros-long}
+use Rattle.rooms.proofs.RoomLaws.{zeros-long}
 
 count-within : (n : ℕ) (ys : List ℕ) → Below n ys → rowCount ys ≤ n
 unfolding rowCount

@@ -1,12 +1,10 @@
--- What drawing a chart asks of its input, and what it answers.
-use mathlib.Core.Path.{_≡_}
-use mathlib.Core.List.{List, _++_, flatten}
+-- What drawing a chart asks of its input, and the room in which the chart is laid.
+use mathlib.Core.List.{List}
 use Prim.Native.Nat.{ℕ, _≤_}
-use lib.ListN.{length, drop}
+use lib.ListN.{length}
 use Rattle.table.specs.Limits.{maxEdges}
 use Rattle.points.specs.Limits.{maxPoints}
-use Rattle.points.specs.Points.{pointRows}
-use Rattle.fewest.specs.Fewest.{Drawing}
+use Rattle.points.specs.Points.{pointRows, segments}
 use Rattle.buffers.specs.Lists.{Below}
 use Rattle.points.specs.Laying.{edgesBetween, Chart}
 
@@ -17,7 +15,9 @@ pub record Drawable (ys from to : List ℕ) : Type 0 where
   pub few-edges : length from ≤ maxEdges
   pub few-rows : Below maxPoints ys
 
--- an order in the first entries of a list, whose others stay, and its crossings
-pub record DrawnIs (d : Drawing) (old new : List ℕ) (crossings : ℕ) : Type 0 where
-  pub order-is : new ≡ flatten (d .order) ++ drop (length (flatten (d .order))) old
-  pub crossings-are : crossings ≡ d .crossings
+-- room for the points and segments of a chart, and for its order
+pub record LaidRoom (ys from to row upper lower order : List ℕ) : Type 0 where
+  pub rows-fit : length (pointRows ys (edgesBetween from to)) ≤ length row
+  pub uppers-fit : length (segments ys (edgesBetween from to)) ≤ length upper
+  pub lowers-fit : length (segments ys (edgesBetween from to)) ≤ length lower
+  pub order-fits : length (pointRows ys (edgesBetween from to)) ≤ length order

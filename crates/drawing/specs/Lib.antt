@@ -1,3 +1,2 @@
--- What drawing a chart asks and answers, and the room in which it is drawn.
+-- What drawing a chart asks, and the room in which it is laid.
 pub mod Drawing
-pub mod Rooms

@@ -1,25 +1,21 @@
 // The drawing of a chart: its points laid in rows, and of the start order and the results of eight passes the first with fewest crossings.
-//
-// An array has its size when the code is compiled, so that all that a chart may need would be cleared for every chart. There is room of two
-// sizes, and a small chart is drawn in the smaller.
-mod rooms;
-
-use crate::rooms::MAX_SEGMENTS;
-use crate::rooms::SMALL_POINTS;
-use crate::rooms::SMALL_SEGMENTS;
-use crate::rooms::draw_order;
+// A small chart is laid and drawn in the smaller of two sizes of room.
 use points::count_rows;
 use points::lay_rows;
 use points::lay_segments;
 use points::limits::MAX_POINTS;
+use rooms::MAX_SEGMENTS;
+use rooms::SMALL_POINTS;
+use rooms::SMALL_SEGMENTS;
+use rooms::draw_order;
 ghost use mathlib.Core.Path.{_≡_};
 ghost use Prim.Native.Nat.{_≤_};
 ghost use lib.ListN.{length};
 ghost use Rattle.points.specs.Points.{pointRows};
 ghost use Rattle.points.specs.Laying.{edgesBetween};
 ghost use Rattle.fewest.specs.Fewest.{drawingOf};
-ghost use Rattle.drawing.specs.Drawing.{Drawable, DrawnIs};
-ghost use Rattle.drawing.specs.Rooms.{smallPoints, LaidRoom};
+ghost use Rattle.rooms.specs.Rooms.{smallPoints, DrawnIs};
+ghost use Rattle.drawing.specs.Drawing.{Drawable, LaidRoom};
 
 // Of nodes in their rows and the ends of edges, which make so many points: the first order with fewest crossings, of the start and eight
 // passes, to the first entries of a buffer. Answers its crossings.

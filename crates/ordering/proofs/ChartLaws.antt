@@ -20,7 +20,8 @@ use Rattle.ordering.specs.declared.types.ChartFound.{ChartFound}
 use Rattle.merging.proofs.EndsLaws.{EndsAmong}
 use Rattle.points.specs.Points.{pointRows, rowCount}
 use Rattle.fewest.specs.Fewest.{Drawing, drawingOf}
-use Rattle.drawing.specs.Drawing.{Drawable, DrawnIs}
+use Rattle.rooms.specs.Rooms.{DrawnIs}
+use Rattle.drawing.specs.Drawing.{Drawable}
 use Rattle.points.specs.Laying.{edgesBetween, Chart}
 use Rattle.ordering.specs.Calls.{pointCount, Charted, chartBy, ChartArrays, arraysOf, arraysIn}
 use Rattle.rows.specs.Placed.{outcomeBy, FairEdges}

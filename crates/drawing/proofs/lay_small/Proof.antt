@@ -1,5 +1,5 @@
 -- A chart with few points has few segments too.
-use Rattle.drawing.specs.Rooms.{smallPoints}
+use Rattle.rooms.specs.Rooms.{smallPoints}
 use Rattle.drawing.proofs.DrawLaws as laws
 use borrow.Author.Needs.{needs}
 use Rattle.drawing.proofs.lay_small.Statement.{statement}

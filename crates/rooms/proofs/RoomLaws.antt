@@ -13,8 +13,7 @@ use Rattle.passes.specs.Laid.{segmentsIn, rowsIn}
 use Rattle.fewest.specs.Fewest.{bestOrder}
 use Rattle.fewest.specs.Drafts.{ListRoom, Roomy, Scratch, DrawingHeld}
 use Rattle.fewest.proofs.CompleteLaws.{best-count, best-points}
-use Rattle.drawing.specs.Drawing.{DrawnIs}
-use Rattle.drawing.specs.Rooms.{smallPoints, segmentRoom, Sketched, Room}
+use Rattle.rooms.specs.Rooms.{smallPoints, segmentRoom, Sketched, Room, DrawnIs}
 
 -- ---- lists of 0s
 

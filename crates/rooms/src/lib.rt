@@ -1,4 +1,7 @@
-// Room to find an order in, of two sizes.
+// Room to find an order in.
+//
+// An array has its size when the code is compiled, so that all that a chart may need would be cleared for every chart. There is room of two
+// sizes, and the order of a small chart is found in the smaller.
 use buffers::store_u16;
 use points::limits::MAX_POINTS;
 use sweep::find_fewest;
@@ -10,8 +13,7 @@ ghost use lib.ListN.{length};
 ghost use Rattle.points.specs.Limits.{maxPoints};
 ghost use Rattle.passes.specs.Laid.{segmentsIn};
 ghost use Rattle.fewest.specs.Fewest.{bestOrder};
-ghost use Rattle.drawing.specs.Drawing.{DrawnIs};
-ghost use Rattle.drawing.specs.Rooms.{smallPoints, segmentRoom, Sketched, Room};
+ghost use Rattle.rooms.specs.Rooms.{smallPoints, segmentRoom, Sketched, Room, DrawnIs};
 
 // Points for which the smaller room is made.
 pub const SMALL_POINTS: usize = 128;

@@ -1,8 +1,8 @@
 -- What the test lets through is within the smaller limit.
-use Rattle.drawing.proofs.RoomLaws as laws
+use Rattle.rooms.proofs.RoomLaws as laws
 use borrow.Author.Needs.{needs}
-use Rattle.drawing.proofs.rooms.draw_order.Statement.{statement}
-use Rattle.drawing.proofs.rooms.draw_order.Tie as tie
+use Rattle.rooms.proofs.draw_order.Statement.{statement}
+use Rattle.rooms.proofs.draw_order.Tie as tie
 
 is-small-requires : tie.Need-is-small-requires
 is-small-requires c κs = search needs

@@ -1,13 +1,13 @@
--- The room in which a chart is drawn: lists of 0s, of a length that the code fixes. There is room of two sizes.
+-- The room in which the order of a chart is found: lists of 0s, of a length that the code fixes. There is room of two sizes. And what is
+-- answered of the order.
 use mathlib.Core.Path.{_≡_}
-use mathlib.Core.List.{List}
+use mathlib.Core.List.{List, _++_, flatten}
 use Prim.Native.Nat.{ℕ, _+_, _/_, _≤_, _<_}
-use lib.ListN.{length}
+use lib.ListN.{length, drop}
 use Rattle.table.specs.Limits.{maxEdges}
-use Rattle.points.specs.Points.{pointRows, segments}
-use Rattle.points.specs.Laying.{edgesBetween}
 use Rattle.buffers.specs.Lists.{Below}
 use Rattle.crossings.specs.Tally.{blockSize}
+use Rattle.fewest.specs.Fewest.{Drawing}
 use Rattle.fewest.specs.Drafts.{Segmented}
 
 -- points for which the smaller room is made
@@ -26,13 +26,6 @@ pub record Sketched (limit : ℕ) (row upper lower : List ℕ) (count : ℕ) : T
   pub few-rows : count ≤ limit
   pub rows-in : Below count row
 
--- room for the points and segments of a chart, and for its order
-pub record LaidRoom (ys from to row upper lower order : List ℕ) : Type 0 where
-  pub rows-fit : length (pointRows ys (edgesBetween from to)) ≤ length row
-  pub uppers-fit : length (segments ys (edgesBetween from to)) ≤ length upper
-  pub lowers-fit : length (segments ys (edgesBetween from to)) ≤ length lower
-  pub order-fits : length (pointRows ys (edgesBetween from to)) ≤ length order
-
 -- room to find the order of n points between which there are m segments, in `count` rows
 pub record Room (n m count : ℕ) (first order before pos totals moved aboveHead aboveLinks above belowHead belowLinks below saved : List ℕ) : Type 0 where
   pub first-long : count < length first
@@ -50,3 +43,8 @@ pub record Room (n m count : ℕ) (first order before pos totals moved aboveHead
   pub below-heads : n ≤ length belowHead
   pub below-links : m ≤ length belowLinks
   pub below-counts : n ≤ length below
+
+-- an order in the first entries of a list, whose others stay, and its crossings
+pub record DrawnIs (d : Drawing) (old new : List ℕ) (crossings : ℕ) : Type 0 where
+  pub order-is : new ≡ flatten (d .order) ++ drop (length (flatten (d .order))) old
+  pub crossings-are : crossings ≡ d .crossings

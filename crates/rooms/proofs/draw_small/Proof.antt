@@ -1,10 +1,12 @@
--- Lists of 0s are room for what is within the limits of a chart.
+-- Lists of 0s are room for what is within the smaller limit.
+use mathlib.Core.Path.{refl}
 use native.Mathlib.Omega.{arith}
 use Rattle.points.specs.Limits.{maxPoints}
-use Rattle.drawing.proofs.RoomLaws as laws
+use Rattle.rooms.specs.Rooms.{smallPoints}
+use Rattle.rooms.proofs.RoomLaws as laws
 use borrow.Author.Needs.{needs}
-use Rattle.drawing.proofs.rooms.draw_large.Statement.{statement}
-use Rattle.drawing.proofs.rooms.draw_large.Tie as tie
+use Rattle.rooms.proofs.draw_small.Statement.{statement}
+use Rattle.rooms.proofs.draw_small.Tie as tie
 
 slice-aggregate-draw-in : tie.Need-slice-aggregate-draw-in
 slice-aggregate-draw-in c = search needs
@@ -46,7 +48,7 @@ slice-aggregate-draw-in-13 : tie.Need-slice-aggregate-draw-in-13
 slice-aggregate-draw-in-13 c = search needs
 
 draw-in-requires : tie.Need-draw-in-requires
-draw-in-requires c κs = let s = c .before .before .before .before .before .before .before .before .before .before .before .before .before .before .before .before .before .before .pre in (s .0, (laws.zeros-room maxPoints (omega arith) (s .0), s .1))
+draw-in-requires c κs = let s = c .before .before .before .before .before .before .before .before .before .before .before .before .before .before .before .before .before .before .pre in (laws.sketched-within smallPoints maxPoints (omega arith) (s .0), (laws.zeros-room smallPoints (omega arith) (s .0), s .1))
 
 same-length : tie.Need-same-length
 same-length c = search needs
@@ -54,8 +56,8 @@ same-length c = search needs
 returns : tie.Need-returns
 returns c = search needs
 
-pub draw-large-spec : {M : Type 1} → statement M
-draw-large-spec =
+pub draw-small-spec : {M : Type 1} → statement M
+draw-small-spec =
     tie.close
     (tie.spec
     slice-aggregate-draw-in

@@ -2,8 +2,8 @@
 use mathlib.Core.Path.{sym}
 use mathlib.Core.Bool.{true≢false}
 use borrow.Author.Needs.{needs}
-use Rattle.drawing.proofs.rooms.is_small.Statement.{statement}
-use Rattle.drawing.proofs.rooms.is_small.Tie as tie
+use Rattle.rooms.proofs.is_small.Statement.{statement}
+use Rattle.rooms.proofs.is_small.Tie as tie
 
 returns : tie.Need-returns
 returns c = λ e. absurd (true≢false (sym e))

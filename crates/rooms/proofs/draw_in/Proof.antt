@@ -4,10 +4,10 @@ use native.Mathlib.Omega.{arith}
 use Prim.Native.Nat.{_+_}
 use lib.ListN.{length, take}
 use denote.Ref.{now}
-use Rattle.drawing.proofs.RoomLaws as laws
+use Rattle.rooms.proofs.RoomLaws as laws
 use borrow.Author.Needs.{needs}
-use Rattle.drawing.proofs.rooms.draw_in.Statement.{statement}
-use Rattle.drawing.proofs.rooms.draw_in.Tie as tie
+use Rattle.rooms.proofs.draw_in.Statement.{statement}
+use Rattle.rooms.proofs.draw_in.Tie as tie
 
 add-starts : tie.Need-add-starts
 add-starts c = search needs
