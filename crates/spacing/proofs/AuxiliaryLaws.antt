@@ -105,7 +105,7 @@ unfolding orderEdges total
 order-free [] z = refl
 order-free (row ∷ order) z = omega (arith, total-join (oneRow row) (orderEdges order) z, one-free row z, order-free order z)
 
--- ---- the edges of the costed: a node left of both ends is at least as far from them in all as they are from each other, and exactly so
+-- ---- the edges of the segments: a node left of both ends is at least as far from them in all as they are from each other, and exactly so
 -- far where it stands at the smaller
 
 over-ends : (c u l w : ℕ) → w ≤ u → w ≤ l → c * distance u l ≤ c * (u - w) + c * (l - w)
@@ -118,7 +118,7 @@ at-smaller c u l w e =
     let d : (u - w) + (l - w) ≡ distance u l = omega arith in
     omega (arith, ap (λ (k : ℕ). c * k) d)
 
--- (a) Feasible rows cost at least the sum of distances, since the node of each piece stands left of both its ends.
+-- (a) Feasible rows cost at least the sum of distances, since the node of each segment stands left of both its ends.
 pub x-total-least : (a : ℕ) (costed : List Costed) (z : ℕ → ℕ) → Feasible (pullEdges a costed) z → xTotal costed z ≤ total (pullEdges a costed) z
 unfolding pullEdges xTotal total
 x-total-least a [] z f = le-refl 0
@@ -134,7 +134,7 @@ x-total-least a (s ∷ costed) z f =
       x-total-least (suc a) costed z (every-tail down (pullEdges (suc a) costed) (Kept z) g),
     )
 
--- the ends of every piece are below n
+-- the ends of every segment are below n
 abbrev EndsIn : ℕ → List Costed → Type 0
 EndsIn n costed = (k : ℕ) → k < length costed → (getD costed k noCosted .upper < n) × (getD costed k noCosted .lower < n)
 
@@ -146,7 +146,7 @@ x-total-same n (s ∷ costed) x z e same =
     rw (same (s .upper) (e zero (zero-lt-suc (length costed)) .0), same (s .lower) (e zero (zero-lt-suc (length costed)) .1))
     (ap (λ (k : ℕ). s .cost * distance (x (s .upper)) (x (s .lower)) + k) (x-total-same n costed x z (λ k h. e (suc k) (suc-le-suc h)) same))
 
--- (b) x extend to feasible rows of the costed' edges at a cost equal to their sum: the node of each piece at the smaller of its ends.
+-- (b) x extend to feasible rows of the segments' edges at a cost equal to their total: the node of each segment at the smaller of its ends.
 smaller : (ℕ → ℕ) → Costed → ℕ
 smaller x s = min (x (s .upper)) (x (s .lower))
 
@@ -180,7 +180,7 @@ module _ (n : ℕ) (x z : ℕ → ℕ) (same : (p : ℕ) → p < n → z p ≡ x
       shift : (a k : ℕ) → suc a + k ≡ a + suc k
       shift a k = omega arith
 
--- the list of x with the nodes of the costed behind it
+-- the list of x with the nodes of the segments behind it
 pub lifted : List ℕ → List Costed → List ℕ
 lifted xs costed = xs ++ map (smaller (at xs)) costed
 
@@ -244,7 +244,7 @@ module _ (n : ℕ) (order : List (List ℕ)) (costed : List Costed) (among : Amo
         lifted-total n (at xs) (at (lifted xs costed)) lifted-point n costed (among .ends-in) lifted-node,
       )
 
--- What holds of the edge of any two beside and of both edges of any piece holds of every edge of the network.
+-- What holds of the edge of any two neighbours and of both edges of any segment holds of every edge of the network.
 pub aux-every : (P : Edge → Type 0) (n : ℕ) (order : List (List ℕ)) (costed : List Costed)
     → ((r i : ℕ) → r < length order → suc i < length (rowIn order r) → P (beside (at (rowIn order r) i) (at (rowIn order r) (suc i))))
     → ((k : ℕ) → k < length costed

@@ -55,8 +55,8 @@ low-x-total v (s ∷ costed) x z is =
     (omega (arith, mul-le-mul-left (s .cost) (low-distance v (x (s .upper)) (x (s .lower))), low-x-total v costed x z is))
 
 module _ (n : ℕ) (order : List (List ℕ)) (costed : List Costed) (among : Among n order costed) (xs : List ℕ) (best : BestX n order costed xs) where
-  -- No value up to one in use is unused. If v were, every x above v could come down by one: beside on the same side of v keep their
-  -- distance, those on both sides were 2 apart, no piece grows longer, and some x is smaller.
+  -- No value up to one in use is unused. If v were, every x above v could come down by one: neighbours on the same side of v keep their
+  -- distance, those on both sides were 2 apart, no segment grows longer, and some x is smaller.
   pub no-value-unused : (v p : ℕ) → p < n → v ≤ at xs p → (q : ℕ) × (q < n) × (at xs q ≡ v)
   no-value-unused v p h l = go (anyBelow (λ q. at xs q ≡ v) (λ q. ℕ-discrete (at xs q) v) n)
     where

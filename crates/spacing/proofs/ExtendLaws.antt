@@ -103,7 +103,7 @@ besides-few row order (suc i) =
     one true = omega arith
     one false = omega arith
 
--- ---- the edges of the costed, one piece after the other
+-- ---- the edges of the segments, one segment after the other
 
 pub length-costedOf : (upper lower cost : List ℕ) → length (costedOf upper lower cost) ≡ length upper
 unfolding costedOf
@@ -169,7 +169,7 @@ module _ {row order from₀ to₀ gap₀ weight₀ : List ℕ} where
           → Siding row order from₀ to₀ gap₀ weight₀ (i + 1) m′ from′ to′ gap′ weight′
       siding-turn l e = record { before = omega arith; written = rw (besides-more row order i) (extends-join (h .written) e) }
 
--- the edges of the first k costed are written
+-- the edges of the first k segments are written
 pub record Pulling (n : ℕ) (upper lower cost : List ℕ) (m₀ : ℕ) (from₀ to₀ gap₀ weight₀ : List ℕ) (k m : ℕ) (from to gap weight : List ℕ) : Type 0 where
   pub before : k ≤ length upper
   pub written : Extends m₀ from₀ to₀ gap₀ weight₀ (pullEdges n (take k (costedOf upper lower cost))) m from to gap weight

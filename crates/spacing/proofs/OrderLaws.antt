@@ -1,4 +1,4 @@
--- An order as one flat list: two points that follow each other are beside exactly where they stand in one row, so the edges that the
+-- An order as one flat list: two points that follow each other are neighbours exactly where they stand in one row, so the edges that the
 -- flat list gives are those of the rows.
 use mathlib.Core.Path.{_≡_, refl, sym, ap, _∙_}
 use mathlib.Core.List.{List, [], _∷_, _++_, flatten, append-nil, append-assoc}
@@ -23,7 +23,7 @@ unfoldable flatEdges : List ℕ → List ℕ → List Edge
 flatEdges row [] = []
 flatEdges row (p ∷ rest) = flatRest row p rest
 
--- those that are besides, and those from point i on, are all
+-- those that are linked, and those from point i on, are all
 besides-rest : (row order : List ℕ) (i : ℕ) → i < length order → besides row order i ++ flatEdges row (drop i order) ≡ flatEdges row order
 unfolding besides flatEdges flatRest
 besides-rest row order zero h = refl
@@ -114,7 +114,7 @@ flat-order row b ((p ∷ l) ∷ o) h =
     flat-row row b p l (flatten o) (rows-head row b (p ∷ l) o h) (rows-above row (suc b) o (rows-tail row b (p ∷ l) o h))
     ∙ ap (λ (m : List Edge). rowEdges p l ++ m) (flat-order row (suc b) o (rows-tail row b (p ∷ l) o h))
 
--- The edges that the flat list gives are those of the rows: inside a row any two that follow each other are besides, and from one row to
+-- The edges that the flat list gives are those of the rows: inside a row any two that follow each other are neighbours, and from one row to
 -- the next the rows differ.
 pub besides-order : (row order : List ℕ) (o : List (List ℕ)) → order ≡ flatten o → RowsFrom row 0 o → besides row order (length order - 1) ≡ orderEdges o
 besides-order row order o e h = besides-all row order ∙ ap (flatEdges row) e ∙ flat-order row 0 o h

@@ -1,3 +1,4 @@
+-- The four ends of the call: refused as the chart is, too many points, a short buffer, and the best x.
 use mathlib.Core.Path.{sym, ap}
 use native.Mathlib.Omega.{arith}
 use denote.Ref.{now}
@@ -13,11 +14,6 @@ use borrow.Author.Needs.{needs}
 use Rattle.coordinates.proofs.find_xs.Statement.{statement}
 use Rattle.coordinates.proofs.find_xs.Tie as tie
 use Rattle.coordinates.proofs.find_xs.Reads as reads
-use Rattle.coordinates.proofs.find_xs.Lts as lts
-use Rattle.buffers.proofs.store_u16.Reads as store-u16-reads
-use Rattle.coordinates.proofs.space.space_lines.Reads as space-lines-reads
-use Rattle.ordering.proofs.chart.merge_ends.Reads as merge-ends-reads
-use Rattle.ordering.proofs.chart_table.Reads as chart-table-reads
 
 -- a table that has a chart, and what its arrays hold
 abbrev A : Type 0
@@ -37,67 +33,51 @@ storable-of c = c .before .before .before .before .chart-table .ensures .1 .hand
 rows-long : (c : A) → charted c .table .n ≤ length (charted c .found .rows)
 rows-long c = omega (arith, open-of c .f-n, storable-of c .few-rows)
 
--- src/lib.rt:31:9
 chart-table-requires : tie.Need-chart-table-requires
 chart-table-requires c κs = search needs
 
--- src/lib.rt:36:26
 enum-known-verdict : tie.Need-enum-known-verdict
 enum-known-verdict c = search needs
 
--- src/lib.rt:38:17
 enum-told : tie.Need-enum-told
 enum-told c = search needs
 
--- src/lib.rt:40:17
 returns : tie.Need-returns
 returns c = ended-large _ _ _ _ (open-of (c .before)) _ (c .if1 .taken)
 
--- src/lib.rt:43:17
 returns-2 : tie.Need-returns-2
 returns-2 c = ended-short _ _ _ _ (open-of (c .before .before)) _ (c .before .if1 .left) (c .if2 .taken)
 
--- src/lib.rt:47:17
 merge-ends-requires : tie.Need-merge-ends-requires
 merge-ends-requires c κs = (opened-mergeable _ _ _ _ (open-of (c .before .before .before .before)), open-of (c .before .before .before .before) .flags-long)
 
--- src/lib.rt:50:36
 array-share-prefix-rows : tie.Need-array-share-prefix-rows
 array-share-prefix-rows c = rows-long (c .before .before .before .before .before .before .before)
 
--- src/lib.rt:50:36
 slice-aggregate-space-lines : tie.Need-slice-aggregate-space-lines
 slice-aggregate-space-lines c = sym (length-take-le _ _ (rows-long (c .before .before .before .before .before .before .before .before)))
 
--- src/lib.rt:50:60
 array-share-prefix-order : tie.Need-array-share-prefix-order
 array-share-prefix-order c = storable-of (c .before .before .before .before .before .before .before .before) .few-points
 
--- src/lib.rt:50:60
 slice-aggregate-space-lines-2 : tie.Need-slice-aggregate-space-lines-2
 slice-aggregate-space-lines-2 c = sym (length-take-le _ _ (storable-of (c .before .before .before .before .before .before .before .before .before) .few-points))
 
--- src/lib.rt:50:24
 space-lines-requires : tie.Need-space-lines-requires
 space-lines-requires c κs = lined _ _ _ _ (open-of (c .before .before .before .before .before .before .before .before .before)) (now (c .before .before .before .before .before .before .before .before .before .before .before .before .before .before .before .before .args .xs)) (c .before .before .before .before .before .before .before .before .if1 .left) _ (c .before .before .before .before .merge-ends .ensures)
 
--- src/lib.rt:51:23
 slice-aggregate-store-u16 : tie.Need-slice-aggregate-store-u16
 slice-aggregate-store-u16 c = search needs
 
--- src/lib.rt:51:13
 store-u16-requires : tie.Need-store-u16-requires
 store-u16-requires c κs = let s = c .before .before .space-lines .ensures in let f = charted (c .before .before .before .before .before .before .before .before .before .before .before .before) .found in let e = length-take-le (f .points) (f .order) (storable-of (c .before .before .before .before .before .before .before .before .before .before .before .before) .few-points) in (omega (arith, s .long, c .before .before .before .before .before .before .before .before .before .before .before .if1 .left), (c .before .before .before .before .before .before .before .before .before .before .if2 .left, λ i h. omega (arith, s .low i (omega (arith, e)), e, c .before .before .before .before .before .before .before .before .before .before .before .if1 .left)))
 
--- src/lib.rt:26:1
 returns-3 : tie.Need-returns-3
 returns-3 c = ended-refused _ _ _ (c .before .before .before .before .before .chart-table .ensures .1) (c .before .verdict .given .1)
 
--- src/lib.rt:26:1
 same-length : tie.Need-same-length
 same-length c = search needs
 
--- src/lib.rt:26:1
 returns-4 : tie.Need-returns-4
 returns-4 c = ended-spaced _ _ _ _ (open-of (c .before .before .before .before .before .before .before .before .before .before .before .before .before .before .before)) _ (c .before .before .before .before .before .before .before .before .before .before .before .before .before .before .if1 .left) _ (c .before .before .before .before .before .before .before .before .before .before .merge-ends .ensures) (c .before .before .before .before .before .before .before .before .before .before .before .before .before .if2 .left) _ (c .before .before .before .before .before .space-lines .ensures) _ (c .before .before .store-u16 .ensures)
 

@@ -11,40 +11,29 @@ use borrow.Author.Needs.{needs}
 use Rattle.host.proofs.yuvatondro_xs.Statement.{statement}
 use Rattle.host.proofs.yuvatondro_xs.Tie as tie
 use Rattle.host.proofs.yuvatondro_xs.Reads as reads
-use Rattle.host.proofs.yuvatondro_xs.Lts as lts
-use Rattle.coordinates.proofs.find_xs.Reads as find-xs-reads
-use Rattle.words.proofs.refusal_word.Reads as refusal-word-reads
-use Rattle.words.proofs.written_word.Reads as written-word-reads
 
 -- the same is promised where the same numbers are told
 xs-same : (bytes xs : List ℕ) {told read : List ℕ} → told ≡ read → XsBest bytes told xs → XsBest bytes read xs
 xs-same bytes xs e b = subst (λ l. XsBest bytes l xs) e b
 
--- src/lib.rt:135:11
 find-xs-requires : tie.Need-find-xs-requires
 find-xs-requires c κs = search needs
 
--- src/lib.rt:136:27
 enum-known-f : tie.Need-enum-known-f
 enum-known-f c = search needs
 
--- src/lib.rt:136:33
 refusal-word-requires : tie.Need-refusal-word-requires
 refusal-word-requires c κs = let f = c .before .f .given in omega (arith, xs-call-step _ _ (f .0 .0) (sym (ap xsNumbers (f .1)) ∙ c .before .before .before .before .before .find-xs .ensures .0))
 
--- src/lib.rt:137:26
 enum-known-points : tie.Need-enum-known-points
 enum-known-points c = search needs
 
--- src/lib.rt:137:37
 written-word-requires : tie.Need-written-word-requires
 written-word-requires c κs = let p = c .before .points .given in omega (arith, told-few _ _ (p .0 .0) (sym (ap xsNumbers (p .1)) ∙ c .before .before .before .before .before .find-xs .ensures .0))
 
--- src/lib.rt:128:1
 same-length : tie.Need-same-length
 same-length c = search needs
 
--- src/lib.rt:128:1
 returns : tie.Need-returns
 returns c = let told = c .before .before .before .before .before .before .find-xs .ensures in
     let f = c .before .before .f .given in
@@ -52,11 +41,9 @@ returns c = let told = c .before .before .before .before .before .before .find-x
     let word = points-refused (f .0 .0) (omega (arith, xs-call-step _ _ (f .0 .0) e)) (c .refusal-word .ensures) e in
     (word .0, (word .1, (told .1 .0, xs-same _ _ (told .0 ∙ sym (word .0)) (told .1 .1))))
 
--- src/lib.rt:128:1
 same-length-2 : tie.Need-same-length-2
 same-length-2 c = search needs
 
--- src/lib.rt:128:1
 returns-2 : tie.Need-returns-2
 returns-2 c = let told = c .before .before .before .before .before .before .find-xs .ensures in
     let p = c .before .before .points .given in

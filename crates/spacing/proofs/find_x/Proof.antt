@@ -1,3 +1,4 @@
+-- The arrays hold the auxiliary network once both parts of it are written; the solver takes it, and its rows at the points are the best x.
 use mathlib.Core.Path.{sym}
 use native.Mathlib.Omega.{arith}
 use Rattle.spacing.proofs.ExtendLaws.{extends-join}
@@ -6,92 +7,67 @@ use borrow.Author.Needs.{needs}
 use Rattle.spacing.proofs.find_x.Statement.{statement}
 use Rattle.spacing.proofs.find_x.Tie as tie
 use Rattle.spacing.proofs.find_x.Reads as reads
-use Rattle.spacing.proofs.find_x.Lts as lts
-use Rattle.spacing.proofs.link.link_points.Reads as link-points-reads
-use Rattle.spacing.proofs.link.link_segments.Reads as link-segments-reads
-use Rattle.spacing.proofs.solve_links.Reads as solve-links-reads
 
--- src/lib.rt:36:37
 slice-aggregate-link-points : tie.Need-slice-aggregate-link-points
 slice-aggregate-link-points c = search needs
 
--- src/lib.rt:36:48
 slice-aggregate-link-points-2 : tie.Need-slice-aggregate-link-points-2
 slice-aggregate-link-points-2 c = search needs
 
--- src/lib.rt:36:57
 slice-aggregate-link-points-3 : tie.Need-slice-aggregate-link-points-3
 slice-aggregate-link-points-3 c = search needs
 
--- src/lib.rt:36:67
 slice-aggregate-link-points-4 : tie.Need-slice-aggregate-link-points-4
 slice-aggregate-link-points-4 c = search needs
 
--- src/lib.rt:36:9
 link-points-requires : tie.Need-link-points-requires
 link-points-requires c κs = (c .before .before .before .before .before .before .before .before .before .pre .points-in, points-room _ _ _ _ _ (c .before .before .before .before .before .before .before .before .before .pre))
 
--- src/lib.rt:42:9
 slice-aggregate-link-segments : tie.Need-slice-aggregate-link-segments
 slice-aggregate-link-segments c = search needs
 
--- src/lib.rt:43:9
 slice-aggregate-link-segments-2 : tie.Need-slice-aggregate-link-segments-2
 slice-aggregate-link-segments-2 c = search needs
 
--- src/lib.rt:44:9
 slice-aggregate-link-segments-3 : tie.Need-slice-aggregate-link-segments-3
 slice-aggregate-link-segments-3 c = search needs
 
--- src/lib.rt:45:9
 slice-aggregate-link-segments-4 : tie.Need-slice-aggregate-link-segments-4
 slice-aggregate-link-segments-4 c = search needs
 
--- src/lib.rt:37:9
 link-segments-requires : tie.Need-link-segments-requires
 link-segments-requires c κs = ((c .before .before .before .before .before .before .before .before .before .before .before .before .before .before .before .before .before .before .pre .priced .lower-long, c .before .before .before .before .before .before .before .before .before .before .before .before .before .before .before .before .before .before .pre .priced .cost-long, omega (arith, c .before .before .before .before .before .before .before .before .before .before .before .before .before .before .before .before .before .before .pre .few)), pulls-room _ _ _ _ _ (c .before .before .before .before .before .before .before .before .before .before .before .before .before .before .before .before .before .before .pre) (c .before .before .before .before .before .before .before .before .link-points .ensures))
 
--- src/lib.rt:49:9
 array-share-prefix-from : tie.Need-array-share-prefix-from
 array-share-prefix-from c = fits-from _ _ _ _ _ (c .before .before .before .before .before .before .before .before .before .before .before .before .before .before .before .before .before .before .before .before .before .before .before .pre) (extends-join (c .before .before .before .before .before .before .before .before .before .before .before .before .before .link-points .ensures) (c .before .before .before .before .link-segments .ensures)) blank-room
 
--- src/lib.rt:49:9
 slice-aggregate-solve-links : tie.Need-slice-aggregate-solve-links
 slice-aggregate-solve-links c = sym (part-from _ _ _ _ _ (c .before .before .before .before .before .before .before .before .before .before .before .before .before .before .before .before .before .before .before .before .before .before .before .before .pre) (extends-join (c .before .before .before .before .before .before .before .before .before .before .before .before .before .before .link-points .ensures) (c .before .before .before .before .before .link-segments .ensures)) blank-room)
 
--- src/lib.rt:50:9
 array-share-prefix-to : tie.Need-array-share-prefix-to
 array-share-prefix-to c = fits-to _ _ _ _ _ (c .before .before .before .before .before .before .before .before .before .before .before .before .before .before .before .before .before .before .before .before .before .before .before .before .pre) (extends-join (c .before .before .before .before .before .before .before .before .before .before .before .before .before .before .link-points .ensures) (c .before .before .before .before .before .link-segments .ensures)) blank-room
 
--- src/lib.rt:50:9
 slice-aggregate-solve-links-2 : tie.Need-slice-aggregate-solve-links-2
 slice-aggregate-solve-links-2 c = sym (part-to _ _ _ _ _ (c .before .before .before .before .before .before .before .before .before .before .before .before .before .before .before .before .before .before .before .before .before .before .before .before .before .pre) (extends-join (c .before .before .before .before .before .before .before .before .before .before .before .before .before .before .before .link-points .ensures) (c .before .before .before .before .before .before .link-segments .ensures)) blank-room)
 
--- src/lib.rt:51:9
 array-share-prefix-gap : tie.Need-array-share-prefix-gap
 array-share-prefix-gap c = fits-gap _ _ _ _ _ (c .before .before .before .before .before .before .before .before .before .before .before .before .before .before .before .before .before .before .before .before .before .before .before .before .before .pre) (extends-join (c .before .before .before .before .before .before .before .before .before .before .before .before .before .before .before .link-points .ensures) (c .before .before .before .before .before .before .link-segments .ensures)) blank-room
 
--- src/lib.rt:51:9
 slice-aggregate-solve-links-3 : tie.Need-slice-aggregate-solve-links-3
 slice-aggregate-solve-links-3 c = sym (part-gap _ _ _ _ _ (c .before .before .before .before .before .before .before .before .before .before .before .before .before .before .before .before .before .before .before .before .before .before .before .before .before .before .pre) (extends-join (c .before .before .before .before .before .before .before .before .before .before .before .before .before .before .before .before .link-points .ensures) (c .before .before .before .before .before .before .before .link-segments .ensures)) blank-room)
 
--- src/lib.rt:52:9
 array-share-prefix-weight : tie.Need-array-share-prefix-weight
 array-share-prefix-weight c = fits-weight _ _ _ _ _ (c .before .before .before .before .before .before .before .before .before .before .before .before .before .before .before .before .before .before .before .before .before .before .before .before .before .before .pre) (extends-join (c .before .before .before .before .before .before .before .before .before .before .before .before .before .before .before .before .link-points .ensures) (c .before .before .before .before .before .before .before .link-segments .ensures)) blank-room
 
--- src/lib.rt:52:9
 slice-aggregate-solve-links-4 : tie.Need-slice-aggregate-solve-links-4
 slice-aggregate-solve-links-4 c = sym (part-weight _ _ _ _ _ (c .before .before .before .before .before .before .before .before .before .before .before .before .before .before .before .before .before .before .before .before .before .before .before .before .before .before .before .pre) (extends-join (c .before .before .before .before .before .before .before .before .before .before .before .before .before .before .before .before .before .link-points .ensures) (c .before .before .before .before .before .before .before .before .link-segments .ensures)) blank-room)
 
--- src/lib.rt:53:9
 add-solve-links : tie.Need-add-solve-links
 add-solve-links c = search needs
 
--- src/lib.rt:48:5
 solve-links-requires : tie.Need-solve-links-requires
 solve-links-requires c κs = let d = c .before .before .before .before .before .before .before .before .before .before .before .before .before .before .before .before .before .before .before .before .before .before .before .before .before .before .before .pre in let e = extends-join (c .before .before .before .before .before .before .before .before .before .before .before .before .before .before .before .before .before .link-points .ensures) (c .before .before .before .before .before .before .before .before .link-segments .ensures) in (parts-network _ _ _ _ _ d e blank-room, (parts-bounded _ _ _ _ _ d e blank-room, parts-sizes _ _ _ _ _ d e blank-room))
 
--- src/lib.rt:21:1
 returns : tie.Need-returns
 returns c = found-x _ _ _ _ _ (c .before .before .before .before .before .before .before .before .before .before .before .before .before .before .before .before .before .before .before .before .before .before .before .before .before .before .before .before .pre) (extends-join (c .before .before .before .before .before .before .before .before .before .before .before .before .before .before .before .before .before .before .link-points .ensures) (c .before .before .before .before .before .before .before .before .before .link-segments .ensures)) blank-room _ (c .solve-links .ensures)
 

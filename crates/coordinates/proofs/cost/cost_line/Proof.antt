@@ -1,3 +1,4 @@
+-- The costs of the segments from j on are still to be written.
 use mathlib.Core.Path.{_≡_, refl, ap, subst}
 use Prim.Native.Nat.{ℕ, _+_, _-_, _*_, _≤_, _<_}
 use native.Mathlib.Omega.{arith}
@@ -12,8 +13,6 @@ use Rattle.coordinates.proofs.LayLaws.{costsOn, costs-start, costs-turn
 use Rattle.coordinates.proofs.cost.cost_line.Statement.{statement}
 use Rattle.coordinates.proofs.cost.cost_line.Tie as tie
 use Rattle.coordinates.proofs.cost.cost_line.Reads as reads
-use Rattle.coordinates.proofs.cost.cost_line.Lts as lts
-use Rattle.coordinates.proofs.cost.factor_at.Reads as factor-at-reads
 
 abbrev Inv-loop : tie.InvT-loop
 Inv-loop weight k cost₀ at s₀ j₀ j-end cost s j = (j-end ≡ k + 1) × (j ≤ j-end) × Writing cost₀ at (lineCosts weight k) cost s (costsOn weight k j j-end)
@@ -28,51 +27,39 @@ room c = writing-next _ _ (costs-turn _ _ _ _ _ (c .loop-test .taken) refl) (c .
 long : (c : tie.At-loop Inv-loop μ-loop) → length (c .loop .cost) ≡ length (now (c .before .before .args .cost))
 long c = writing-long (c .loop .inv .2)
 
--- src/cost.rt:37:17
 add-j-end : tie.Need-add-j-end Inv-loop μ-loop
 add-j-end c = search needs
 
--- src/cost.rt:37:5
 loop-holds : tie.Need-loop-holds Inv-loop μ-loop
 loop-holds c = (refl, omega arith, subst (Writing _ _ _ _ _) (costs-start (c .before .args .weight) (c .before .args .k)) (writing-start (now (c .before .args .cost)) (c .before .args .at) (lineCosts (c .before .args .weight) (c .before .args .k)) (omega (arith, c .before .pre .1, line-length (c .before .args .weight) (c .before .args .k)))))
 
--- src/cost.rt:38:28
 factor-at-requires : tie.Need-factor-at-requires Inv-loop μ-loop
 factor-at-requires c κs = search needs
 
--- src/cost.rt:38:19
 mul-cost : tie.Need-mul-cost Inv-loop μ-loop
 mul-cost c = omega (arith, ap (λ (v : ℕ). c .before .before .before .before .args .weight * v) (c .factor-at .ensures), cost-low (c .before .before .before .before .args .weight) maxAdded (c .before .before .loop .j) (c .before .before .before .before .args .k) (c .before .before .before .before .pre .0))
 
--- src/cost.rt:38:9
 mul-cost-2 : tie.Need-mul-cost-2 Inv-loop μ-loop
 mul-cost-2 c = let h = room (c .before) in let l = long (c .before .before) in search needs
 
--- src/cost.rt:38:9
 slice-write-cost : tie.Need-slice-write-cost Inv-loop μ-loop
 slice-write-cost c = room (c .before)
 
--- src/cost.rt:39:9
 add-s : tie.Need-add-s Inv-loop μ-loop
 add-s c = let h = room (c .before) in let l = long (c .before .before) in search needs
 
--- src/cost.rt:37:9
 add-j : tie.Need-add-j Inv-loop μ-loop
 add-j c = search needs
 
--- src/cost.rt:37:5
 loop-less : tie.Need-loop-less Inv-loop μ-loop
 loop-less c = search needs
 
--- src/cost.rt:37:5
 loop-again : tie.Need-loop-again Inv-loop μ-loop
 loop-again c = (omega arith, omega arith, writing-one _ _ (costs-turn _ _ _ _ _ (c .before .loop-test .taken) (c .factor-at .ensures)) (c .before .before .loop .inv .2))
 
--- src/cost.rt:31:1
 same-length : tie.Need-same-length Inv-loop μ-loop
 same-length c = long (c .before)
 
--- src/cost.rt:31:1
 returns : tie.Need-returns Inv-loop μ-loop
 returns c = writing-end (costs-end _ _ _ _ (c .loop-test .left)) (c .before .loop .inv .2)
 

@@ -1,22 +1,17 @@
+-- By the two tests.
 use borrow.Author.Tests.{eq-eqb, ne-eqb}
 use Rattle.coordinates.proofs.cost.factor_at.Statement.{statement}
 use Rattle.coordinates.proofs.cost.factor_at.Tie as tie
-use Rattle.coordinates.proofs.cost.factor_at.Reads as reads
-use Rattle.coordinates.proofs.cost.factor_at.Lts as lts
 
--- src/cost.rt:20:13
 returns : tie.Need-returns
 returns c = rw (eq-eqb (c .before .before .args .j) 0 (c .before .if1 .taken), eq-eqb (c .before .before .args .j) (c .before .before .args .k) (c .if2 .taken))
 
--- src/cost.rt:22:9
 returns-2 : tie.Need-returns-2
 returns-2 c = rw (eq-eqb (c .before .before .args .j) 0 (c .before .if1 .taken), ne-eqb (c .before .before .args .j) (c .before .before .args .k) (c .if2 .left))
 
--- src/cost.rt:25:9
 returns-3 : tie.Need-returns-3
 returns-3 c = rw (ne-eqb (c .before .before .args .j) 0 (c .before .if1 .left), eq-eqb (c .before .before .args .j) (c .before .before .args .k) (c .if3 .taken))
 
--- src/cost.rt:15:1
 returns-4 : tie.Need-returns-4
 returns-4 c = rw (ne-eqb (c .before .before .args .j) 0 (c .before .if1 .left), ne-eqb (c .before .before .args .j) (c .before .before .args .k) (c .if3 .left))
 

@@ -1,3 +1,4 @@
+-- The costs of the lines from i on are still to be written.
 use mathlib.Core.Path.{_≡_, refl}
 use mathlib.Core.List.{_++_}
 use Prim.Native.Nat.{ℕ, _+_, _-_, _≤_, _<_}
@@ -13,9 +14,6 @@ use Rattle.coordinates.proofs.LayLaws.{costsRest, rest-turn, rest-end, 
 use Rattle.coordinates.proofs.cost.lay_costs.Statement.{statement}
 use Rattle.coordinates.proofs.cost.lay_costs.Tie as tie
 use Rattle.coordinates.proofs.cost.lay_costs.Reads as reads
-use Rattle.coordinates.proofs.cost.lay_costs.Lts as lts
-use Rattle.coordinates.proofs.cost.cost_line.Reads as cost-line-reads
-use Rattle.points.proofs.count_between.Reads as count-between-reads
 
 abbrev Inv-loop : tie.InvT-loop
 Inv-loop rows from to weight cost₀ s₀ i₀ i-end cost s i = (i-end ≡ length from) × (i ≤ length from) × Writing cost₀ 0 (costsFrom rows (linesOf from to weight)) cost s (costsRest rows from to weight i)
@@ -50,59 +48,45 @@ room c = omega (arith, writing-room (lineCosts (at (now (start (head c) .args .w
 weighed : (c : tie.In-loop Inv-loop μ-loop) → c .before .loop .i < length (now (start (c .before) .args .weight))
 weighed c = omega (arith, inside c, start (c .before) .pre .1 .0 .long)
 
--- src/cost.rt:58:5
 loop-holds : tie.Need-loop-holds Inv-loop μ-loop
 loop-holds c = (refl, omega arith, writing-start (now (c .before .before .before .before .before .args .cost)) 0 (costsFrom (now (c .before .before .before .before .before .args .rows)) (linesOf (now (c .before .before .before .before .before .args .from)) (now (c .before .before .before .before .before .args .to)) (now (c .before .before .before .before .before .args .weight)))) (omega (arith, c .before .before .before .before .before .pre .1 .1)))
 
--- src/cost.rt:59:37
 mul-count-between : tie.Need-mul-count-between Inv-loop μ-loop
 mul-count-between c = search needs
 
--- src/cost.rt:59:37
 shared-slice-read-count-between : tie.Need-shared-slice-read-count-between Inv-loop μ-loop
 shared-slice-read-count-between c = search needs
 
--- src/cost.rt:59:46
 mul-count-between-2 : tie.Need-mul-count-between-2 Inv-loop μ-loop
 mul-count-between-2 c = let h = to-inside (c .before .before .before .before .before .before .before .before .pre .0) _ (inside (c .before)) in search needs
 
--- src/cost.rt:59:46
 shared-slice-read-count-between-2 : tie.Need-shared-slice-read-count-between-2 Inv-loop μ-loop
 shared-slice-read-count-between-2 c = to-inside (c .before .before .before .before .before .before .before .before .before .pre .0) _ (inside (c .before .before))
 
--- src/cost.rt:59:13
 count-between-requires : tie.Need-count-between-requires Inv-loop μ-loop
 count-between-requires c κs = let h = inside (c .before .before) in let p = c .before .before .before .before .before .before .before .before .before .pre .0 in (tail-in p _ h, (head-in p _ h, p .down _ h))
 
--- src/cost.rt:60:23
 mul-cost-line : tie.Need-mul-cost-line Inv-loop μ-loop
 mul-cost-line c = let h = weighed (c .before .before .before) in search needs
 
--- src/cost.rt:60:23
 shared-slice-read-cost-line : tie.Need-shared-slice-read-cost-line Inv-loop μ-loop
 shared-slice-read-cost-line c = weighed (c .before .before .before .before)
 
--- src/cost.rt:60:9
 cost-line-requires : tie.Need-cost-line-requires Inv-loop μ-loop
 cost-line-requires c κs = (c .before .before .before .before .before .before .before .before .before .before .before .before .pre .1 .0 .low _ (weighed (c .before .before .before .before .before)), room (c .before .before))
 
--- src/cost.rt:58:9
 add-i : tie.Need-add-i Inv-loop μ-loop
 add-i c = let h = inside (c .before .before .before .before .before .before .before .before) in search needs
 
--- src/cost.rt:58:5
 loop-less : tie.Need-loop-less Inv-loop μ-loop
 loop-less c = omega (arith, inside (c .before .before .before .before .before .before .before .before))
 
--- src/cost.rt:58:5
 loop-again : tie.Need-loop-again Inv-loop μ-loop
 loop-again c = (omega arith, omega (arith, inside (c .before .before .before .before .before .before .before .before)), writing-part _ _ (turn (c .before .before .before .before .before)) (c .before .before .before .before .before .before .before .before .before .loop .inv .2) (c .before .before .cost-line .ensures))
 
--- src/cost.rt:45:1
 same-length : tie.Need-same-length Inv-loop μ-loop
 same-length c = writing-long (c .before .loop .inv .2)
 
--- src/cost.rt:45:1
 returns : tie.Need-returns Inv-loop μ-loop
 returns c = let s = c .before .before .before .before .before .before .before .args in writing-end (rest-end (now (s .rows)) (now (s .from)) (now (s .to)) (now (s .weight)) (c .before .loop .i) (omega arith)) (c .before .loop .inv .2)
 

@@ -1,4 +1,4 @@
--- The edges of the first k costed are written.
+-- The edges of the first k segments are written.
 use Prim.Native.Nat.{_-_}
 use native.Mathlib.Omega.{arith}
 use Rattle.spacing.proofs.ExtendLaws.{Pulling, pulling-start, pulling-room, pulling-turn, pulling-end}
