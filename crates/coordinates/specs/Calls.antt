@@ -16,7 +16,7 @@ use Rattle.fewest.specs.Fewest.{drawingOf}
 use Rattle.ordering.specs.Calls.{drawnIn, Placing, pointCount, chartOfTable, filled}
 use Rattle.spacing.specs.Limits.{maxXs}
 use Rattle.spacing.specs.Coordinates.{BestX}
-use Rattle.spacing.specs.Auxiliary.{xsOf}
+use Rattle.spacing.specs.Trial.{xsOf}
 use Rattle.coordinates.specs.Costs.{chartCosted}
 use Rattle.coordinates.specs.declared.XsAnswer.{XsAnswer}
 use Rattle.coordinates.specs.declared.XsAnswer.the-variants.{Spaced, Refused}

@@ -67,24 +67,23 @@ module _ (edges : List Edge) (b : ℕ) where
   all-placements zero = (low-none b, tt)
   all-placements (suc k) = all-extend (placements edges b k) (all-placements k)
 
-  low-lightest : (c : List ℕ) (cs : List (List ℕ)) → Under b c → AllUnder b cs → Under b (lightest edges c cs)
+  low-lightest : (weigh : List ℕ → ℕ) (c : List ℕ) (cs : List (List ℕ)) → Under b c → AllUnder b cs → Under b (lightest weigh c cs)
   unfolding lightest
-  low-lightest c [] h k = h
-  low-lightest c (d ∷ ds) h k =
-      low-lightest (cond (ltb (total edges (at d)) (total edges (at c))) d c) ds (go (ltb (total edges (at d)) (total edges (at c)))) (k .1)
+  low-lightest weigh c [] h k = h
+  low-lightest weigh c (d ∷ ds) h k = low-lightest weigh (cond (ltb (weigh d) (weigh c)) d c) ds (go (ltb (weigh d) (weigh c))) (k .1)
     where
       go : (t : Bool) → Under b (cond t d c)
       go true = k .0
       go false = h
 
-  low-first : (cs : List (List ℕ)) → AllUnder b cs → Under b (firstLightest edges cs)
+  low-first : (weigh : List ℕ → ℕ) (cs : List (List ℕ)) → AllUnder b cs → Under b (firstLightest weigh cs)
   unfolding firstLightest
-  low-first [] h = low-none b
-  low-first (c ∷ cs) h = low-lightest c cs (h .0) (h .1)
+  low-first weigh [] h = low-none b
+  low-first weigh (c ∷ cs) h = low-lightest weigh c cs (h .0) (h .1)
 
 -- the bound for any number of nodes and any gaps
 pub rows-low : (n : ℕ) (edges : List Edge) (v : ℕ) → at (rowsOf n edges) v ≤ (n - 1) * widest edges
 unfolding rowsOf
 rows-low n edges v =
     let b = (n - 1) * widest edges in
-    low-first edges b (placements edges b n) (all-placements edges b n) .low v
+    low-first edges b (λ ys. total edges (at ys)) (placements edges b n) (all-placements edges b n) .low v

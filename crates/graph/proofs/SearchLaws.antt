@@ -54,7 +54,7 @@ unfolding keeps keepsOne
 keeps-nil [] = refl
 keeps-nil (a ∷ edges) = rw (leb·zero (a .from)) (keeps-nil edges)
 
-keeps-feasible : (edges : List Edge) (ys : List ℕ) → Within (length ys) edges → keeps edges ys ≡ true → Feasible edges (at ys)
+pub keeps-feasible : (edges : List Edge) (ys : List ℕ) → Within (length ys) edges → keeps edges ys ≡ true → Feasible edges (at ys)
 unfolding keeps keepsOne
 keeps-feasible [] ys w e i b = absurd (not-suc-le-zero b)
 keeps-feasible (a ∷ edges) ys w e zero b =
@@ -68,12 +68,12 @@ keeps-feasible (a ∷ edges) ys w e (suc i) b =
 
 -- ---- one list of rows lies nowhere above another
 
-abbrev Under : List ℕ → List ℕ → Type 0
+abbrev pub Under : List ℕ → List ℕ → Type 0
 Under [] c = Unit {0}
 Under (a ∷ y) [] = ⊥
 Under (a ∷ y) (b ∷ c) = (a ≤ b) × Under y c
 
-under-at : (y c : List ℕ) → length y ≡ length c → ((i : ℕ) → i < length y → at y i ≤ at c i) → Under y c
+pub under-at : (y c : List ℕ) → length y ≡ length c → ((i : ℕ) → i < length y → at y i ≤ at c i) → Under y c
 under-at [] c e h = tt
 under-at (a ∷ y) [] e h = suc-ne-zero (length y) e
 under-at (a ∷ y) (b ∷ c) e h = (h zero (zero-lt-suc (length y)), under-at y c (suc-inj e) (λ i l. h (suc i) (suc-le-suc l)))
@@ -88,11 +88,11 @@ under-snoc (a ∷ y) (b ∷ c) v x e u =
 
 -- ---- all of some lists
 
-data All (P : List ℕ → Type 0) : List (List ℕ) → Type 0 where
+pub data All (P : List ℕ → Type 0) : List (List ℕ) → Type 0 where
   none : All P []
   one : {c : List ℕ} {cs : List (List ℕ)} → P c → All P cs → All P (c ∷ cs)
 
-all-map : {P Q : List ℕ → Type 0} {cs : List (List ℕ)} → ((c : List ℕ) → P c → Q c) → All P cs → All Q cs
+pub all-map : {P Q : List ℕ → Type 0} {cs : List (List ℕ)} → ((c : List ℕ) → P c → Q c) → All P cs → All Q cs
 all-map f none = none
 all-map f (one {c = c} p h) = one (f c p) (all-map f h)
 
@@ -115,47 +115,47 @@ unfolding run
 all-run P c f a zero = none
 all-run P c f a (suc k) = one (f a) (all-run P c f (suc a) k)
 
--- ---- y is among the lists, and every list before it lies somewhere below y
+-- ---- y is met among the lists: every list before it lies somewhere below y
 
-data Leads (y : List ℕ) : List (List ℕ) → Type 0 where
-  here : {c : List ℕ} {cs : List (List ℕ)} → y ≡ c → Leads y (c ∷ cs)
-  there : {c : List ℕ} {cs : List (List ℕ)} → ¬ Under y c → Leads y cs → Leads y (c ∷ cs)
+pub data Met (y : List ℕ) : List (List ℕ) → Type 0 where
+  here : {c : List ℕ} {cs : List (List ℕ)} → y ≡ c → Met y (c ∷ cs)
+  there : {c : List ℕ} {cs : List (List ℕ)} → ¬ Under y c → Met y cs → Met y (c ∷ cs)
 
-leads-left : {y : List ℕ} {cs : List (List ℕ)} (ds : List (List ℕ)) → Leads y cs → Leads y (cs ++ ds)
-leads-left ds (here e) = here e
-leads-left ds (there n l) = there n (leads-left ds l)
+met-left : {y : List ℕ} {cs : List (List ℕ)} (ds : List (List ℕ)) → Met y cs → Met y (cs ++ ds)
+met-left ds (here e) = here e
+met-left ds (there n l) = there n (met-left ds l)
 
-leads-right : {y : List ℕ} {cs ds : List (List ℕ)} → All (λ c. ¬ Under y c) cs → Leads y ds → Leads y (cs ++ ds)
-leads-right none l = l
-leads-right (one p h) l = there p (leads-right h l)
+met-right : {y : List ℕ} {cs ds : List (List ℕ)} → All (λ c. ¬ Under y c) cs → Met y ds → Met y (cs ++ ds)
+met-right none l = l
+met-right (one p h) l = there p (met-right h l)
 
-leads-sieve : {y : List ℕ} {cs : List (List ℕ)} (edges : List Edge) → keeps edges y ≡ true → Leads y cs → Leads y (sieve edges cs)
+met-sieve : {y : List ℕ} {cs : List (List ℕ)} (edges : List Edge) → keeps edges y ≡ true → Met y cs → Met y (sieve edges cs)
 unfolding sieve
-leads-sieve edges k (here {c = c} {cs = cs} e) = rw (rw e at k) (here e)
-leads-sieve {y} edges k (there {c = c} {cs = cs} n l) = go (keeps edges c) (leads-sieve edges k l)
+met-sieve edges k (here {c = c} {cs = cs} e) = rw (rw e at k) (here e)
+met-sieve {y} edges k (there {c = c} {cs = cs} n l) = go (keeps edges c) (met-sieve edges k l)
   where
-    go : (b : Bool) → Leads y (sieve edges cs) → Leads y (cond b (c ∷ sieve edges cs) (sieve edges cs))
+    go : (b : Bool) → Met y (sieve edges cs) → Met y (cond b (c ∷ sieve edges cs) (sieve edges cs))
     go true r = there n r
     go false r = r
 
-leads-run : (c : List ℕ) (v a k : ℕ) → a ≤ v → v < a + k → Leads (c ++ v ∷ []) (map (λ x. c ++ x ∷ []) (run a k))
+met-run : (c : List ℕ) (v a k : ℕ) → a ≤ v → v < a + k → Met (c ++ v ∷ []) (map (λ x. c ++ x ∷ []) (run a k))
 unfolding run
-leads-run c v a zero h l = absurd (omega arith)
-leads-run c v a (suc k) h l = go (ℕ-discrete v a) (λ p. leads-run c v (suc a) k p (omega arith))
+met-run c v a zero h l = absurd (omega arith)
+met-run c v a (suc k) h l = go (ℕ-discrete v a) (λ p. met-run c v (suc a) k p (omega arith))
   where
-    go : Dec (v ≡ a) → (suc a ≤ v → Leads (c ++ v ∷ []) (map (λ x. c ++ x ∷ []) (run (suc a) k)))
-        → Leads (c ++ v ∷ []) ((c ++ a ∷ []) ∷ map (λ x. c ++ x ∷ []) (run (suc a) k))
+    go : Dec (v ≡ a) → (suc a ≤ v → Met (c ++ v ∷ []) (map (λ x. c ++ x ∷ []) (run (suc a) k)))
+        → Met (c ++ v ∷ []) ((c ++ a ∷ []) ∷ map (λ x. c ++ x ∷ []) (run (suc a) k))
     go (yes e) r = here (ap (λ (x : ℕ). c ++ x ∷ []) e)
     go (no n) r = there (λ (u : Under (c ++ v ∷ []) (c ++ a ∷ [])). n (omega (arith, under-snoc c c v a refl u .1))) (r (omega arith))
 
-leads-extend : {y : List ℕ} {cs : List (List ℕ)} (edges : List Edge) (b v : ℕ) → v ≤ b → keeps edges (y ++ v ∷ []) ≡ true
-    → All (λ c. length y ≡ length c) cs → Leads y cs → Leads (y ++ v ∷ []) (extend edges b cs)
+met-extend : {y : List ℕ} {cs : List (List ℕ)} (edges : List Edge) (b v : ℕ) → v ≤ b → keeps edges (y ++ v ∷ []) ≡ true
+    → All (λ c. length y ≡ length c) cs → Met y cs → Met (y ++ v ∷ []) (extend edges b cs)
 unfolding extend
-leads-extend edges b v h k al (here {c = c} {cs = cs} e) =
-    leads-left (extend edges b cs) (leads-sieve {cs = map (λ x. c ++ x ∷ []) (run 0 (suc b))} edges k (rw e (leads-run c v 0 (suc b) (omega arith) (omega arith))))
-leads-extend {y} edges b v h k (one q al) (there {c = c} {cs = cs} n l) =
-    leads-right (all-map (λ d p. p .0) (all-sieve edges (all-run (λ d. ¬ Under (y ++ v ∷ []) d) c (λ x u. n (under-snoc y c v x q u .0)) 0 (suc b))))
-    (leads-extend edges b v h k al l)
+met-extend edges b v h k al (here {c = c} {cs = cs} e) =
+    met-left (extend edges b cs) (met-sieve {cs = map (λ x. c ++ x ∷ []) (run 0 (suc b))} edges k (rw e (met-run c v 0 (suc b) (omega arith) (omega arith))))
+met-extend {y} edges b v h k (one q al) (there {c = c} {cs = cs} n l) =
+    met-right (all-map (λ d p. p .0) (all-sieve edges (all-run (λ d. ¬ Under (y ++ v ∷ []) d) c (λ x u. n (under-snoc y c v x q u .0)) 0 (suc b))))
+    (met-extend edges b v h k al l)
 
 -- ---- the placements: each has its length and keeps the edges, and the rows ys lead them
 
@@ -171,51 +171,52 @@ unfolding placements
 all-placements edges b zero = one refl none
 all-placements edges b (suc k) = all-map (λ c p. p .0) (all-extend edges b k (all-placements edges b k))
 
-all-keep : (edges : List Edge) (b k : ℕ) → All (λ c. (length c ≡ k) × (keeps edges c ≡ true)) (placements edges b k)
+pub all-keep : (edges : List Edge) (b k : ℕ) → All (λ c. (length c ≡ k) × (keeps edges c ≡ true)) (placements edges b k)
 unfolding placements
 all-keep edges b zero = one (refl, keeps-nil edges) none
 all-keep edges b (suc k) = all-extend edges b k (all-placements edges b k)
 
 module _ (edges : List Edge) (ys : List ℕ) (fea : Feasible edges (at ys)) (b : ℕ) (small : (i : ℕ) → i < length ys → at ys i ≤ b) where
-  leads-placements : (k : ℕ) → k ≤ length ys → Leads (take k ys) (placements edges b k)
+  pub met-placements : (k : ℕ) → k ≤ length ys → Met (take k ys) (placements edges b k)
   unfolding placements
-  leads-placements zero h = here refl
-  leads-placements (suc k) h =
+  met-placements zero h = here refl
+  met-placements (suc k) h =
       rw (take-suc ys k 0 h)
-      (leads-extend edges b (at ys k) (small k h) (rw (take-suc ys k 0 h) at (keeps-take edges ys (suc k) h fea))
+      (met-extend edges b (at ys k) (small k h) (rw (take-suc ys k 0 h) at (keeps-take edges ys (suc k) h fea))
       (all-map (λ c e. length-take-le k ys (omega arith) ∙ sym e) (all-placements edges b k))
-      (leads-placements k (omega arith)))
+      (met-placements k (omega arith)))
 
--- ---- the first of the lightest
+-- ---- the first of the lightest, by what each weighs
 
-stays : {cs : List (List ℕ)} (edges : List Edge) (y : List ℕ) → All (λ c. total edges (at y) ≤ total edges (at c)) cs → lightest edges y cs ≡ y
-unfolding lightest
-stays edges y none = refl
-stays edges y (one {c = c} p h) = rw (le-ltb (total edges (at c)) (total edges (at y)) p) (stays edges y h)
+module _ (weigh : List ℕ → ℕ) (y : List ℕ) where
+  stays : {cs : List (List ℕ)} → All (λ c. weigh y ≤ weigh c) cs → lightest weigh y cs ≡ y
+  unfolding lightest
+  stays none = refl
+  stays (one {c = c} p h) = rw (le-ltb (weigh c) (weigh y) p) (stays h)
 
--- y is no heavier than c, and nowhere above it if c is as light
-abbrev Beats : List Edge → List ℕ → List ℕ → Type 0
-Beats edges y c = (total edges (at y) ≤ total edges (at c)) × (total edges (at c) ≡ total edges (at y) → Under y c)
+  -- y is no heavier than c, and nowhere above it if c is as light
+  abbrev pub Beats : List ℕ → Type 0
+  Beats c = (weigh y ≤ weigh c) × (weigh c ≡ weigh y → Under y c)
 
-comes : {cs : List (List ℕ)} (edges : List Edge) (y x : List ℕ) → total edges (at y) < total edges (at x)
-    → Leads y cs → All (Beats edges y) cs → lightest edges x cs ≡ y
-unfolding lightest
-comes edges y x l (here {c = c} e) (one p h) =
-    rw (lt-ltb (total edges (at c)) (total edges (at x)) (rw e at l)) (rw (← e) (stays edges y (all-map (λ d q. q .0) h)))
-comes edges y x l (there {c = c} n r) (one p h) = comes edges y (cond t c x) (go t) r h
-  where
-    t : Bool
-    t = ltb (total edges (at c)) (total edges (at x))
+  comes : {cs : List (List ℕ)} (x : List ℕ) → weigh y < weigh x → Met y cs → All Beats cs → lightest weigh x cs ≡ y
+  unfolding lightest
+  comes x l (here {c = c} e) (one p h) =
+      rw (lt-ltb (weigh c) (weigh x) (rw e at l)) (rw (← e) (stays (all-map (λ d q. q .0) h)))
+  comes x l (there {c = c} n r) (one p h) = comes (cond t c x) (go t) r h
+    where
+      t : Bool
+      t = ltb (weigh c) (weigh x)
 
-    go : (b : Bool) → total edges (at y) < total edges (at (cond b c x))
-    go true = elim (ℕ-discrete (total edges (at c)) (total edges (at y))) [ yes e ↦ absurd (n (p .1 e)) | no d ↦ omega arith ]
-    go false = l
+      go : (b : Bool) → weigh y < weigh (cond b c x)
+      go true = elim (ℕ-discrete (weigh c) (weigh y)) [ yes e ↦ absurd (n (p .1 e)) | no d ↦ omega arith ]
+      go false = l
 
-first : {cs : List (List ℕ)} (edges : List Edge) (y : List ℕ) → Leads y cs → All (Beats edges y) cs → firstLightest edges cs ≡ y
-unfolding firstLightest
-first edges y (here {c = c} e) (one p h) = rw (← e) (stays edges y (all-map (λ d q. q .0) h))
-first edges y (there {c = c} n r) (one p h) =
-    comes edges y c (elim (ℕ-discrete (total edges (at c)) (total edges (at y))) [ yes e ↦ absurd (n (p .1 e)) | no d ↦ omega arith ]) r h
+  -- A list that is met before any that lies nowhere below it, and that beats all, is the first of the lightest.
+  pub first-lightest : {cs : List (List ℕ)} → Met y cs → All Beats cs → firstLightest weigh cs ≡ y
+  unfolding firstLightest
+  first-lightest (here {c = c} e) (one p h) = rw (← e) (stays (all-map (λ d q. q .0) h))
+  first-lightest (there {c = c} n r) (one p h) =
+      comes c (elim (ℕ-discrete (weigh c) (weigh y)) [ yes e ↦ absurd (n (p .1 e)) | no d ↦ omega arith ]) r h
 
 -- Best rows that do not pass the bound are what the trial finds. They are among the placements tried, since they keep the edges and
 -- the bound. A placement before them is smaller somewhere, so it is heavier; one after them is no lighter. So they are the first of the
@@ -225,25 +226,25 @@ pub bounded-is-rowsOf : (n : ℕ) (edges : List Edge) (ys : List ℕ) → Within
 unfolding rowsOf
 bounded-is-rowsOf n edges ys w small best =
     let e = best .one-a-node in
-    first edges ys
-    (rw (take-all n ys (omega arith)) at (leads-placements edges ys (best .feasible) b (λ i h. small i (omega arith)) n (omega arith)))
+    first-lightest (λ ys. total edges (at ys)) ys
+    (rw (take-all n ys (omega arith)) at (met-placements edges ys (best .feasible) b (λ i h. small i (omega arith)) n (omega arith)))
     (all-map beats (all-keep edges b n))
   where
     b : ℕ
     b = (n - 1) * widest edges
 
-    beats : (c : List ℕ) → (length c ≡ n) × (keeps edges c ≡ true) → Beats edges ys c
+    beats : (c : List ℕ) → (length c ≡ n) × (keeps edges c ≡ true) → Beats (λ ys. total edges (at ys)) ys c
     beats c p =
         let f : Feasible edges (at c) = keeps-feasible edges c (rw (p .0) w) (p .1) in
         (best .least c (p .0) f, λ q. under-at ys c (best .one-a-node ∙ sym (p .0)) (λ i h. best .lowest c (p .0) f q i (omega (arith, best .one-a-node))))
 
 -- where no placement is feasible, `rowsOf` is empty
-none-left : {cs : List (List ℕ)} (edges : List Edge) → All (λ c. ⊥) cs → firstLightest edges cs ≡ []
+none-left : {cs : List (List ℕ)} (weigh : List ℕ → ℕ) → All (λ c. ⊥) cs → firstLightest weigh cs ≡ []
 unfolding firstLightest
-none-left edges none = refl
-none-left edges (one p h) = absurd p
+none-left weigh none = refl
+none-left weigh (one p h) = absurd p
 
 pub none-is-rowsOf : (n : ℕ) (edges : List Edge) → Within n edges → ((z : ℕ → ℕ) → Feasible edges z → ⊥) → rowsOf n edges ≡ []
 unfolding rowsOf
 none-is-rowsOf n edges w no-one =
-    none-left edges (all-map (λ c p. no-one (at c) (keeps-feasible edges c (rw (p .0) w) (p .1))) (all-keep edges ((n - 1) * widest edges) n))
+    none-left (λ ys. total edges (at ys)) (all-map (λ c p. no-one (at c) (keeps-feasible edges c (rw (p .0) w) (p .1))) (all-keep edges ((n - 1) * widest edges) n))

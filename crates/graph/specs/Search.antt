@@ -35,14 +35,14 @@ unfoldable pub placements : List Edge → ℕ → ℕ → List (List ℕ)
 placements edges b zero = [] ∷ []
 placements edges b (suc k) = extend edges b (placements edges b k)
 
--- the first of the lightest of c and cs
-unfoldable pub lightest : List Edge → List ℕ → List (List ℕ) → List ℕ
-lightest edges c [] = c
-lightest edges c (d ∷ ds) = lightest edges (cond (ltb (total edges (at d)) (total edges (at c))) d c) ds
+-- the first of the lightest of c and cs, by what each weighs
+unfoldable pub lightest : (List ℕ → ℕ) → List ℕ → List (List ℕ) → List ℕ
+lightest weigh c [] = c
+lightest weigh c (d ∷ ds) = lightest weigh (cond (ltb (weigh d) (weigh c)) d c) ds
 
-unfoldable pub firstLightest : List Edge → List (List ℕ) → List ℕ
-firstLightest edges [] = []
-firstLightest edges (c ∷ cs) = lightest edges c cs
+unfoldable pub firstLightest : (List ℕ → ℕ) → List (List ℕ) → List ℕ
+firstLightest weigh [] = []
+firstLightest weigh (c ∷ cs) = lightest weigh c cs
 
 -- the largest gap
 unfoldable pub widest : List Edge → ℕ
@@ -52,4 +52,4 @@ widest (e ∷ edges) = max (e .gap) (widest edges)
 -- The answer of document 01 under "Rows": of the feasible placements of least total the first in dictionary order, which is the
 -- lowest at every node. No row of the answer is above (n − 1) times the largest gap, so no other placement need be tried.
 unfoldable pub rowsOf : ℕ → List Edge → List ℕ
-rowsOf n edges = firstLightest edges (placements edges ((n - 1) * widest edges) n)
+rowsOf n edges = firstLightest (λ ys. total edges (at ys)) (placements edges ((n - 1) * widest edges) n)

@@ -37,7 +37,7 @@ unfolding oneRow
 one-every P [] h = every-nil P
 one-every P (p ∷ row) h = row-every P p row h
 
-order-every : (P : Edge → Type 0) (order : List (List ℕ))
+pub order-every : (P : Edge → Type 0) (order : List (List ℕ))
     → ((r i : ℕ) → r < length order → suc i < length (rowIn order r) → P (beside (at (rowIn order r) i) (at (rowIn order r) (suc i))))
     → Every (orderEdges order) P
 unfolding orderEdges

@@ -1,14 +1,13 @@
 -- Best rows of the auxiliary network, at the points, are the best x.
-use mathlib.Core.Path.{_≡_, sym, ap, _∙_}
+use mathlib.Core.Path.{_≡_, sym, _∙_}
 use mathlib.Core.List.{List}
 use Prim.Native.Nat.{ℕ, suc, _≤_, _<_}
 use native.Mathlib.Omega.{arith}
 use lib.ListN.{length, take}
 use lib.Seq.{getD-take, length-take-le, ext-getD}
 use Rattle.graph.specs.Rows.{at, Kept, Feasible, total, Best}
-use Rattle.graph.proofs.BoundLaws.{best-is-rowsOf}
 use Rattle.spacing.specs.Coordinates.{Costed, rowIn, Spaced, xTotal, BestX, Among}
-use Rattle.spacing.specs.Auxiliary.{orderEdges, pullEdges, aux, auxNodes, xsOf}
+use Rattle.spacing.specs.Auxiliary.{orderEdges, pullEdges, aux, auxNodes}
 use Rattle.spacing.proofs.EdgeListLaws.{every-left, every-right, total-join}
 use Rattle.spacing.proofs.AuxiliaryLaws.{
   feasible-spaced,
@@ -20,7 +19,6 @@ use Rattle.spacing.proofs.AuxiliaryLaws.{
   lifted-point,
   lifted-rows,
   lifted-sum,
-  aux-within,
 }
 
 module _ (n : ℕ) (order : List (List ℕ)) (costed : List Costed) (among : Among n order costed) where
@@ -83,10 +81,3 @@ best-x-unique n order costed xs zs p q =
     ext-getD 0 xs zs (p .one-a-point ∙ sym (q .one-a-point)) (λ i b.
     let h : i < n = omega (arith, p .one-a-point) in
     omega (arith, p .lowest zs (q .one-a-point) (q .spaced) e i h, q .lowest xs (p .one-a-point) (p .spaced) (sym e) i h))
-
--- So where the network has best rows, its trial of every placement gives the best x, and nothing else is best.
-pub best-is-xsOf : (n : ℕ) (order : List (List ℕ)) (costed : List Costed) → Among n order costed
-    → (ys : List ℕ) → Best (auxNodes n costed) (aux n order costed) ys → xsOf n order costed ≡ take n ys
-unfolding xsOf
-best-is-xsOf n order costed among ys best =
-    ap (take n) (best-is-rowsOf (auxNodes n costed) (aux n order costed) ys (aux-within n order costed among) best)

@@ -19,7 +19,8 @@ use Rattle.spacing.specs.Auxiliary.{pullEdges, aux, auxNodes}
 use Rattle.spacing.specs.Flat.{costedOf, besides, firstEdges, EdgesRoom, Extends, Ordered, Priced, Spaceable, FoundX, NetworkSolved}
 use Rattle.spacing.proofs.EdgeListLaws.{Every}
 use Rattle.spacing.proofs.AuxiliaryLaws.{aux-every, aux-within, lifted, lifted-low, lifted-rows}
-use Rattle.spacing.proofs.BestLaws.{best-x, best-is-xsOf}
+use Rattle.spacing.proofs.BestLaws.{best-x}
+use Rattle.spacing.proofs.TrialLaws.{best-is-xsOf}
 use Rattle.spacing.proofs.BoundLaws.{x-below}
 use Rattle.spacing.proofs.ExtendLaws.{extends-none, room-left, length-costedOf, costed-at, pulls-count, besides-few}
 use Rattle.spacing.proofs.OrderLaws.{besides-order}
@@ -194,7 +195,7 @@ module _ (order row upper lower cost : List ℕ) (d : Spaceable order row upper 
       found-x xs s =
           record {
             best = best;
-            is = λ o h. best-is-xsOf (length order) o costed (among o h) rows (solved o h) ∙ front;
+            is = λ o h. best-is-xsOf (length order) o costed (among o h) (take (length order) xs) (best o h);
             low = λ p b.
                 omega (
                   arith,

@@ -3,6 +3,7 @@ pub mod EdgeListLaws
 pub mod AuxiliaryLaws
 pub mod BestLaws
 pub mod BoundLaws
+pub mod TrialLaws
 pub mod ExtendLaws
 pub mod OrderLaws
 pub mod SeatLaws

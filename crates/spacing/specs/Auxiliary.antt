@@ -2,9 +2,8 @@
 -- one for each segment.
 use mathlib.Core.List.{List, [], _∷_, _++_}
 use Prim.Native.Nat.{ℕ, suc, _+_}
-use lib.ListN.{length, take}
+use lib.ListN.{length}
 use Rattle.graph.specs.declared.Edge.{Edge}
-use Rattle.graph.specs.Search.{rowsOf}
 use Rattle.spacing.specs.Coordinates.{Costed}
 
 -- a point stands 1 right of its left neighbour, or farther, at no cost
@@ -40,8 +39,3 @@ aux n order costed = orderEdges order ++ pullEdges n costed
 -- how many nodes it has
 abbrev pub auxNodes : ℕ → List Costed → ℕ
 auxNodes n costed = n + length costed
-
--- The best x as a definition that computes: what trial of every placement finds for the network, at the points. What they are is `BestX`,
--- which no other list has (proofs/BestLaws.antt).
-unfoldable pub xsOf : ℕ → List (List ℕ) → List Costed → List ℕ
-xsOf n order costed = take n (rowsOf (auxNodes n costed) (aux n order costed))

@@ -11,7 +11,8 @@ use Rattle.buffers.specs.Lists.{Below, occurs}
 use Rattle.relaxation.specs.Network.{edgesOf}
 use Rattle.spacing.specs.Limits.{maxXs, maxSegments, maxNodes, costLimit}
 use Rattle.spacing.specs.Coordinates.{Costed, rowIn, BestX}
-use Rattle.spacing.specs.Auxiliary.{beside, xsOf}
+use Rattle.spacing.specs.Auxiliary.{beside}
+use Rattle.spacing.specs.Trial.{xsOf}
 
 -- segments by the lists of their ends and costs
 unfoldable pub costedOf : List ℕ → List ℕ → List ℕ → List Costed

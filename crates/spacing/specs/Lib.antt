@@ -2,4 +2,5 @@
 pub mod Limits
 pub mod Coordinates
 pub mod Auxiliary
+pub mod Trial
 pub mod Flat
