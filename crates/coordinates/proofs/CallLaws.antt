@@ -59,7 +59,7 @@ refused-end bytes old r e = (sym (ap (λ x. x .numbers) e), (sym (ap (λ x. x .x
 
 -- ---- as the chart is
 
-out-refused : (o : Outcome Placing) {r : Refusal} → refused r ≡ chartOut o → o ≡ refused r
+pub out-refused : (o : Outcome Placing) {r : Refusal} → refused r ≡ chartOut o → o ≡ refused r
 out-refused (done p) e = let z : _≡_ {A = ℕ} 0 1 = cc in absurd (omega arith)
 out-refused (refused g) e = sym cc
 

@@ -16,7 +16,7 @@ use Rattle.ordering.proofs.StepLaws.{chart-of-step}
 use Rattle.spacing.specs.Limits.{maxXs}
 use Rattle.coordinates.specs.Calls.{Spacing, unlessPast, xsOfTable, XsEnd, xsEnd, xsCall}
 
-xs-of-step : (bytes : List ℕ) {f : Refusal} → xsOfTable bytes ≡ refused f → StepLow f
+pub xs-of-step : (bytes : List ℕ) {f : Refusal} → xsOfTable bytes ≡ refused f → StepLow f
 unfolding xsOfTable
 xs-of-step bytes {f} e = go (chartOfTable bytes) refl e
   where

@@ -1,0 +1,4 @@
+-- The strokes of a chart: document 02, request 8.
+pub mod Routes
+pub mod Calls
+pub mod Finding
