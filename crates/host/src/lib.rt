@@ -1,8 +1,10 @@
-// The calls for C. Slices are a pointer and a length; answers are packed into one word. Each contract says what the header's functions read
-// out of the word, in the numbers that the call tells, which word it is, and what the lent buffers hold at the end. All of it is in
-// the specs of `words` and of the layers below.
+// The calls for C. Slices are a pointer and a length; answers are packed into one word, beside which a stroke has its two floats. Each
+// contract says what the header's functions read out of the word, in the numbers that the call tells, which word it is, and what the lent
+// buffers hold at the end. All of it is in the specs of `words` and of the layers below.
 use coordinates::XsAnswer;
 use ordering::ChartAnswer;
+use plain::PlainStroke;
+use plain::plain_answer;
 use queries::types::CountsAnswer;
 use queries::types::NameAnswer;
 use rows::types::Row;
@@ -23,7 +25,9 @@ ghost use Rattle.edgelist.specs.Calls.{recordCall, RecordsBest};
 ghost use Rattle.layering.specs.Calls.{rowsCall, TableBest};
 ghost use Rattle.ordering.specs.Calls.{chartCall, ChartBest};
 ghost use Rattle.coordinates.specs.Calls.{xsCall, XsBest};
-ghost use Rattle.words.specs.Words.{countsRead, countsWord, nameRead, nameWord, writtenRead, pointsRead, doneRead, doneWord, chartRead, chartWord};
+ghost use Rattle.strokes.specs.Calls.{strokeCall};
+ghost use Rattle.plain.specs.Plain.{strokeNumbers, plainAnswer, PlainExact};
+ghost use Rattle.words.specs.Words.{countsRead, countsWord, nameRead, nameWord, writtenRead, pointsRead, strokeRead, doneRead, doneWord, chartRead, chartWord};
 
 // The steps and the edges of a table.
 #[no_mangle]
@@ -136,4 +140,14 @@ pub extern "C" fn yuvatondro_xs(table: &[u8], xs: &mut [u16]) -> u64
         XsAnswer::Refused(f) => refusal_word(f),
         XsAnswer::Spaced(points) => written_word(points),
     }
+}
+
+// The stroke at an index of a table's chart, in plain numbers.
+#[no_mangle]
+pub extern "C" fn yuvatondro_stroke_at(table: &[u8], index: usize) -> PlainStroke
+    ensures { λ r. ⌜ strokeRead (r .answer) ≡ strokeNumbers (strokeCall (now (table .entry)) index) ⌝ }
+    ensures { λ r. ⌜ r ≡ plainAnswer (strokeCall (now (table .entry)) index) ⌝ }
+    ensures { λ r. ⌜ PlainExact (now (table .entry)) index r ⌝ }
+{
+    plain_answer(strokes::find_stroke(table, index))
 }

@@ -7,7 +7,7 @@ use lib.ListN.{getD}
 use Rattle.outcome.specs.declared.Refusal.{Refusal}
 use Rattle.outcome.specs.declared.Refusal.the-variants.{Cut, Overlong, BadEdition, ManySteps, BadKind, OutOfRange, BadNameByte, ManyEdges, BadEnd, Spare, Loop, ManyPoints, ShortBuffer, NoStep, BadFirmness, LargeChart}
 use Rattle.outcome.specs.Refusal.{numbersOf, stepOf, refusalIn}
-use Rattle.words.specs.Words.{wordRefusal, wordSteps, wordEdges, wordNameStart, wordNameLength, wordPoints, wordTotal, wordCrossings, wordWritten, wordRead, doneRead, writtenRead, pointsRead, countsRead, nameRead, chartRead, second, pointsRoom, totalRoom, doneWord, countsWord, nameWord, chartWord}
+use Rattle.words.specs.Words.{wordRefusal, wordSteps, wordEdges, wordNameStart, wordNameLength, wordPoints, wordTotal, wordCrossings, wordWritten, wordCase, wordRead, doneRead, writtenRead, pointsRead, strokeRead, countsRead, nameRead, chartRead, second, pointsRoom, totalRoom, doneWord, countsWord, nameWord, chartWord}
 
 -- ---- refusals
 
@@ -75,6 +75,10 @@ module _ (f : Refusal) (low : stepOf f < second) {w : ℕ} (is : w ≡ doneWord 
   unfolding pointsRead
   points-refused = (read-back (λ w. wordPoints w ∷ []), is ∙ ap doneWord e)
 
+  pub stroke-refused : strokeRead w ≡ numbers
+  unfolding strokeRead
+  stroke-refused = read-back (λ w. wordCase w ∷ [])
+
   pub counts-refused : (countsRead w ≡ numbers) × (w ≡ countsWord numbers)
   unfolding countsRead
   counts-refused = (read-back (λ w. wordSteps w ∷ wordEdges w ∷ []), omega (arith, is, refusal-short f) ∙ ap countsWord e)
@@ -114,6 +118,14 @@ module _ (len : ℕ) {w : ℕ} (is : w ≡ doneWord (0 ∷ len ∷ [])) where
   pub points-unpacks : len < pointsRoom → pointsRead w ≡ 0 ∷ len ∷ []
   unfolding pointsRead
   points-unpacks h = rw (written-zero, written-points h)
+
+  -- and the case of a stroke
+  written-case : len < second → wordCase w ≡ len
+  written-case h = omega (arith, is)
+
+  pub stroke-unpacks : len < second → strokeRead w ≡ 0 ∷ len ∷ []
+  unfolding strokeRead
+  stroke-unpacks h = rw (written-zero, written-case h)
 
 module _ (steps edges : ℕ) (h : steps < second) {w : ℕ} (is : w ≡ countsWord (0 ∷ steps ∷ edges ∷ [])) where
   counts-low : wordRefusal w ≡ 0

@@ -43,6 +43,10 @@ wordCrossings w = w / 0x100000000000
 abbrev pub wordWritten : ℕ → ℕ
 wordWritten w = w / 0x100
 
+-- the case of a stroke
+abbrev pub wordCase : ℕ → ℕ
+wordCase w = w / 0x100 % 0x100
+
 -- ---- all that is read out of a word, as the numbers that a call tells
 
 -- the refusal's number, and with a loop (11) the step
@@ -61,6 +65,9 @@ writtenRead = wordRead (λ w. wordWritten w ∷ [])
 
 unfoldable pub pointsRead : ℕ → List ℕ
 pointsRead = wordRead (λ w. wordPoints w ∷ [])
+
+unfoldable pub strokeRead : ℕ → List ℕ
+strokeRead = wordRead (λ w. wordCase w ∷ [])
 
 unfoldable pub countsRead : ℕ → List ℕ
 countsRead = wordRead (λ w. wordSteps w ∷ wordEdges w ∷ [])
@@ -96,7 +103,8 @@ totalRoom = 0x2000000
 abbrev pub crossingsRoom : ℕ
 crossingsRoom = 0x100000
 
--- 0 or a refusal's number, and above it what else is told: with a loop the step, the bytes of a table or the x that were written, or nothing
+-- 0 or a refusal's number, and above it what else is told: with a loop the step, the bytes of a table or the x that were written, the case
+-- of a stroke, or nothing
 abbrev pub doneWord : List ℕ → ℕ
 doneWord numbers = getD numbers 0 0 + getD numbers 1 0 * second
 

@@ -1,0 +1,2 @@
+-- Strokes for C.
+pub mod Plain
