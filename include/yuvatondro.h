@@ -4,9 +4,9 @@
  * length is 0 the pointer is not followed. No buffer shares memory with another, with the table or with the records. Every call
  * takes any bytes and any lengths, ends, and keeps no state.
  *
- * An answer is one word. Its low byte is 0, or the number of the refusal, and then no buffer was changed. With refusal 11 the lowest
- * step that lies on a loop of must edges stands in the byte above; with any other the bits above are 0. Entries of a buffer behind
- * those that a call fills keep their content.
+ * An answer is one word, with two floats beside it in yuvatondro_stroke_at. The word's low byte is 0, or the number of the refusal, and
+ * then no buffer was changed. With refusal 11 the lowest step that lies on a loop of must edges stands in the byte above; with any other
+ * the bits above are 0. Entries of a buffer behind those that a call fills keep their content.
  */
 #ifndef YUVATONDRO_H
 #define YUVATONDRO_H
@@ -42,7 +42,7 @@ enum {
 
 enum { YUVATONDRO_MAX_STEPS = 96, YUVATONDRO_MAX_EDGES = 288, YUVATONDRO_MAX_POINTS = 1024 };
 
-/* The most points of a chart for which yuvatondro_xs finds an x each. */
+/* The most points of a chart for which yuvatondro_xs finds an x each and yuvatondro_stroke_at has strokes. */
 enum { YUVATONDRO_MAX_XS = 128 };
 
 /* No row is above this: a gap is at most 4. Of a table of n steps none is above 4 * (n - 1); so tables of at most 64 steps, the most
@@ -116,6 +116,29 @@ static inline unsigned long yuvatondro_crossings(uint64_t chart) { return (unsig
  * wide as the widest thing that is drawn at a point nothing overlaps, and a segment whose ends have the same x is upright. A line of weight
  * 0 costs nothing, and so is straight only by chance. A chart of more than YUVATONDRO_MAX_XS points has its rows and order, but no x. */
 uint64_t yuvatondro_xs(const uint8_t *table, size_t table_len, uint16_t *xs, size_t xs_len);
+
+/* What a pen does next that draws the chart: it goes to a corner without drawing, or it draws a straight line to it. A corner is a pair of
+ * millimetres, x from the left and y from the top: 12.5 for each x of yuvatondro_xs and 7.25 for each row of yuvatondro_chart. Both are
+ * exact: no corner of any chart was rounded. */
+typedef struct {
+  uint64_t answer;
+  float x, y;
+} yuvatondro_stroke;
+
+/* Which it is, where the refusal is 0: none, a move or a line. With none, and with a refusal, x and y are 0. */
+enum { YUVATONDRO_NO_STROKE = 0, YUVATONDRO_MOVE = 1, YUVATONDRO_LINE = 2 };
+
+/* No chart has more strokes: each line has two more than it has dummies. */
+enum { YUVATONDRO_MAX_STROKES = YUVATONDRO_MAX_XS + 2 * YUVATONDRO_MAX_EDGES };
+
+/* The stroke at an index, counted from 0 over all lines of a table's chart. They come line by line as yuvatondro_chart has them: of each a
+ * move to the step that it starts at by the table, then a line to each of its dummies, and last one to the step that it ends at. So a line
+ * that was turned is drawn upwards, and each line stroke leads from where the stroke before it ended to a neighbouring row. Answers none
+ * from the number of strokes on, and at every index if there are no edges. Refuses by 1 to 10 and 15, then 11, 12, 16.
+ *
+ * Nothing is lent and nothing is kept between calls: each works the chart out anew. */
+yuvatondro_stroke yuvatondro_stroke_at(const uint8_t *table, size_t table_len, size_t index);
+static inline unsigned yuvatondro_stroke_case(uint64_t answer) { return (unsigned)(answer >> 8 & 0xFF); }
 
 /* The shortest form of a table, to `out`: the same steps and edges in the same order, every number in its fewest bytes, edition 1 if no
  * edge is soft and else 2. Answers how many bytes it wrote. Refuses by 1 to 10 and 15, then 13. No loop is looked for, and no edge is
