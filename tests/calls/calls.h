@@ -93,6 +93,17 @@ int wrote(uint64_t answer, const uint8_t *out, const Table *due);
 typedef uint64_t Writer(const Table *t, size_t room, uint8_t *out);
 void test_writer(const char *call, Writer *writer, const Table *t, const Table *shortest);
 
+/* The call for a stroke, which is lent no buffer: the same wherever the table stands. */
+yuvatondro_stroke call_stroke(const Table *t, size_t index);
+/* By the bits of the floats, so that neither a rounded corner nor a zero of the other sign is the same. */
+int same_stroke(yuvatondro_stroke a, yuvatondro_stroke b);
+uint32_t float_bits(float number);
+/* There are so many strokes and not one more; and at every index the table is refused, by this answer. */
+void expect_none(const char *what, const Table *t, size_t strokes);
+void expect_refused_strokes(const Table *t, uint64_t answer, const char *what);
+/* The strokes of a table whose chart has x are those of its lines, by the rows and x that the other calls give. */
+void expect_strokes(const char *what, size_t steps, const Edges *lines, const Table *t);
+
 void test_rows_calls(void);
 void test_chart_call(void);
 void test_soft_edges(void);
@@ -103,5 +114,6 @@ void test_tall_charts(void);
 void test_means(void);
 void test_merged_edges(void);
 void test_xs_call(void);
+void test_stroke_call(void);
 
 #endif

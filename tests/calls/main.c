@@ -28,6 +28,7 @@ int main(void) {
   test_means();
   test_merged_edges();
   test_xs_call();
+  test_stroke_call();
   printf("host: %d checks, each as expected\n", checks);
   return 0;
 }

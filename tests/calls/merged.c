@@ -157,7 +157,7 @@ static void expect_same_xs(const Table *t, const Table *joined, size_t points) {
   expect(same_entries(xs[0], xs[1], POINTS), "repeated: xs");
 }
 
-/* They have the same chart. The x of some are enough, since to find them takes most of the time. */
+/* They have the same chart. The x of some are enough, and the strokes of fewer, since to find x takes most of the time. */
 static void test_same_chart(void) {
   uint32_t state = 1;
   for (size_t round = 0; round < 2000; round++) {
@@ -174,6 +174,7 @@ static void test_same_chart(void) {
     expect(call_chart(&t, steps, points, rows[1], order[1]) == answer, "repeated: exact buffers");
     expect(call_chart(&t, steps, points - 1, rows[1], order[1]) == 13, "repeated: order one short");
     if (round % 8 == 0) expect_same_xs(&t, &joined, points);
+    if (round % 128 == 0 && points <= YUVATONDRO_MAX_XS) expect_strokes("repeated: strokes", steps, &merged, &t);
   }
 }
 

@@ -36,6 +36,7 @@ static void test_same(const Table *t, const Table *shortest) {
   expect(same_entries(rows[0], rows[1], ROWS) && same_entries(order[0], order[1], POINTS), "written: rows and order");
   expect(call_xs(t, POINTS, order[0]) == call_xs(shortest, POINTS, order[1]), "written: the answer of xs");
   expect(same_entries(order[0], order[1], POINTS), "written: xs");
+  for (size_t i = 0; i < 4; i++) expect(same_stroke(call_stroke(t, i), call_stroke(shortest, i)), "written: a stroke");
   expect(wrote(call_write(shortest, shortest->len, out), out, shortest), "written again");
 }
 
