@@ -25,6 +25,8 @@ max_steps=96
 max_edges=288
 old_steps=64
 old_edges=192
+# The most points of a chart that has x and strokes.
+max_xs=128
 # The bytes of the longest table, and of the same with each number in three bytes. Names have 16.
 max_shortest=$((1 + 1 + max_steps * (1 + 2 + 1 + 16) + 2 + max_edges * (1 + 1 + 1 + 2 + 1)))
 max_stored=$((3 + 3 + max_steps * (3 * 3 + 16) + 3 + max_edges * (5 * 3)))
@@ -42,6 +44,18 @@ repeat() {
 make_edges() {
     steps='02 00 01 41 00 01 42'
     echo "02 $steps $("$1" "$2")$(repeat "$2" '00 01 01 01 00') -> writes 01 $steps $(short "$2")$(repeat "$2" '00 01 01 01')"
+}
+# make_steps STEPS, make_chain STEPS: checks of one name; and must edges with gap 4 from each of so many steps to the next; a blank first
+make_steps() { repeat "$1" '00 01 41'; }
+make_chain() { awk -v steps="$1" 'BEGIN { for (i = 1; i < steps; i++) printf " %02X %02X 04 01", i - 1, i }'; }
+# make_beside LINES: the longest chain, and from its first step to its last one or two lines, a must one and a soft one. With one there are
+# more points than may have an x, with two more than a chart may have
+make_beside() {
+    links=$((max_steps - 1)) last=$(printf %02X $((max_steps - 1)))
+    printf '02 %s%s %s' "$(short "$max_steps")" "$(make_steps "$max_steps")" "$(short $((links + $1)))"
+    make_chain "$max_steps" | sed 's/ \(.. ..\) 04 01/ \1 04 01 00/g'
+    [ "$1" -eq 1 ] || printf ' 00 %s 04 01 01' "$last"
+    echo " 00 $last 04 01 00 -> refused $([ "$1" -eq 1 ] && echo 16 || echo 12)"
 }
 # make_longest STEPS EDGES, make_longest_forms STEPS EDGES: the longest table of so many, and the same with each number in three bytes
 name='41 42 43 44 45 46 47 48 49 4A 4B 4C 4D 4E 4F 50'
@@ -91,4 +105,20 @@ its_own() {
     "$work/library" "$1" <"$work/shortest" | sed 's/^writes //' >"$work/again"
     same "what was written (<) is written in another way (>)" "$work/shortest" "$work/again"
     echo "$test: $(wc -l <"$work/shortest") tables written, each its own shortest form"
+}
+# row_sizes: of the results of charts what is known of their points: how many there are in each row, or the refusal
+row_sizes() {
+    awk '/^refused/ { print; next }
+        {
+            rows = split($0, row, " / ")
+            printf "points"
+            for (i = 2; i <= rows; i++) printf " %d", split(row[i], field, " ") - 1
+            print ""
+        }'
+}
+# known_charts: makes $work/known, every table that tests/chart reads from a file with what is known of its points
+known_charts() {
+    # shellcheck disable=SC2086
+    store $charts
+    row_sizes <"$work/results" | paste -d '@' "$work/tables" - | sed 's/@/ -> /' >"$work/known"
 }

@@ -5,43 +5,14 @@
  *   xs limit   reads nothing and prints the most points that the header has the call take
  * Each table is tried with the largest buffer, the exact one, a longer one and shorter ones, all with guards round them. Ends with status 1
  * at the first surprise, and with 2 if none of these is named. */
-#include <stdio.h>
-#include <stdlib.h>
-#include <string.h>
+static const char program[] = "xs";
+#include "known.h"
 
-#include "yuvatondro.h"
-
-/* The longest stored table with a spare byte; a line of it has two digits and a blank for each byte, and behind them a number a row. */
-enum { MAX_TABLE = YUVATONDRO_MAX_STORED + 1, MAX_LINE = 3 * MAX_TABLE + 8 * (YUVATONDRO_MAX_ROW + 2) };
 /* The largest buffer holds more than the call ever fills. */
 enum { GUARD = 16, FILL = 0xA5A5, ROOM = YUVATONDRO_MAX_XS + 3 };
 
-static char line[MAX_LINE];
-static uint8_t table[MAX_TABLE];
-static size_t table_len;
 static uint16_t guarded[GUARD + ROOM + GUARD];
 static uint16_t *const xs = guarded + GUARD;
-static unsigned long lines;
-
-static void expect(int holds, const char *what) {
-  if (holds) return;
-  fprintf(stderr, "xs: line %lu, a table of %zu bytes: %s\n", lines, table_len, what);
-  exit(1);
-}
-
-/* The table of the next line; 0 where there is none. */
-static int read_table(void) {
-  char *at = line, *end;
-  if (fgets(line, sizeof line, stdin) == NULL) return 0;
-  lines++;
-  expect(strchr(line, '\n') != NULL, "the line does not fit");
-  for (table_len = 0;; at = end) {
-    unsigned long byte = strtoul(at, &end, 16);
-    if (end == at) return 1;
-    expect(table_len < MAX_TABLE, "the table does not fit");
-    table[table_len++] = (uint8_t)byte;
-  }
-}
 
 static int is_filled(const uint16_t *start, size_t entries) {
   while (entries > 0 && start[entries - 1] == FILL) entries--;
@@ -76,22 +47,13 @@ static uint64_t try_rooms(void) {
 
 static void show_table(void) {
   uint64_t answer = try_rooms();
-  unsigned refusal = yuvatondro_refusal(answer);
-  if (refusal == YUVATONDRO_DONE) {
+  if (yuvatondro_refusal(answer) == YUVATONDRO_DONE) {
     printf("x");
     for (unsigned i = 0; i < yuvatondro_points(answer); i++) printf(" %u", (unsigned)xs[i]);
   } else {
-    printf("refused %u", refusal);
-    if (refusal == YUVATONDRO_LOOP) printf(" %u", yuvatondro_loop_step(answer));
+    print_refusal(answer);
   }
   printf("\n");
-}
-
-/* The answer that a line has for a refused table. */
-static uint64_t read_refusal(const char *known) {
-  unsigned refusal, step = 0;
-  expect(sscanf(known, "refused %u %u", &refusal, &step) > 0, "the line does not say what is known");
-  return refusal | (uint64_t)step << 8;
 }
 
 /* In each row x rise from left to right, and some x is 0. */
@@ -111,36 +73,24 @@ static void check_spaced(const char *sizes, unsigned points) {
   for (unsigned i = 0; i < points; i++) expect(xs[i] < points, "an x is as large as the number of points");
 }
 
-static unsigned add_sizes(const char *sizes) {
-  unsigned points = 0;
-  for (char *end;; sizes = end) {
-    unsigned long size = strtoul(sizes, &end, 10);
-    if (end == sizes) return points;
-    points += (unsigned)size;
-  }
-}
-
 typedef struct { unsigned long spaced, large, refused; } Counts;
 
 static void check_table(Counts *counts) {
-  const char *known = strstr(line, " -> ");
-  expect(known != NULL, "the line does not say what is known");
-  known += strlen(" -> ");
+  const char *known = find_known(), *sizes = find_sizes(known);
   uint64_t answer = try_rooms();
-  if (strncmp(known, "points", strlen("points")) != 0) {
+  if (sizes == NULL) {
     expect(answer == read_refusal(known), "not refused as the chart is");
     counts->refused++;
     return;
   }
-  known += strlen("points");
-  unsigned points = add_sizes(known);
+  unsigned points = add_sizes(sizes);
   if (points > YUVATONDRO_MAX_XS) {
     expect(answer == YUVATONDRO_LARGE_CHART, "a large chart is not refused by 16");
     counts->large++;
     return;
   }
   expect(answer == (uint64_t)points << 8, "other points than the chart has");
-  check_spaced(known, points);
+  check_spaced(sizes, points);
   counts->spaced++;
 }
 
