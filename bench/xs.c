@@ -7,8 +7,8 @@
 #include "merged.h"
 #include "peer.h"
 #include "rows_call.h"
-#include "sizes.h"
 #include "x_network.h"
+#include "x_tables.h"
 #include "xs_call.h"
 #include <math.h>
 #include <stdio.h>
@@ -16,7 +16,7 @@
 #include <string.h>
 
 enum { XS, CHART, LEMON, PROGRAMS };
-enum { ROUNDS = 9, MAX_CASES = SIZES * 32, FEWEST_POINTS = 100 };
+enum { ROUNDS = 9 };
 
 typedef struct {
   char name[2 * MAX_NAME];  // with the size before it was cut
@@ -30,7 +30,7 @@ typedef struct {
   double turn[PROGRAMS][ROUNDS];
 } Case;
 
-typedef struct { const char *title; Case cases[MAX_CASES]; size_t count, skipped; } Group;
+typedef struct { const char *title; Case cases[MAX_X_TABLES]; size_t count, skipped; } Group;
 
 // What we want of the time of the call for x over another, in the geometric mean over all tables.
 static const struct { int program; const char *name; double limit; } limits[] = { { LEMON, "LEMON", 4 }, { CHART, "the chart call", 3 } };
@@ -80,7 +80,8 @@ static void run_group(Group *g) {
 }
 
 // Takes an instance into the group, cut to the points that the call takes, unless it has too few then.
-static void add_case(Group *g, const Instance *inst) {
+static void add_case(void *group, const Instance *inst) {
+  Group *g = group;
   Case *c = &g->cases[g->count];
   snprintf(c->name, sizeof c->name, "%s, %zu/%zu", inst->name, inst->nodes, inst->edges);
   c->inst = *inst;
@@ -91,27 +92,6 @@ static void add_case(Group *g, const Instance *inst) {
   if (c->chart.refusal != 0 || !build_x_network(&c->merged, &c->chart, &c->network)) stop(c, "no chart of the lines");
   if (c->chart.points < FEWEST_POINTS) g->skipped++;
   else g->count++;
-}
-static void make_shapes(Group *g) {
-  static Instance inst;
-  for (int k = 0; k < SIZES; k++)
-    for (size_t shape = 0; shape < shape_count(); shape++)
-      for (int seed = 1; seed <= SEEDS; seed++) {
-        make_shape(&inst, shape, node_counts[k], node_counts[k] * EDGES_A_NODE, seed);
-        add_case(g, &inst);
-      }
-}
-// As many steps and up to as many edges as a table may have, and few dummies.
-static void make_layered(Group *g) {
-  static const size_t layers[] = { 3, 4, 6, 8, 12 }, edges[] = { 100, 150, 200, 250, YUVATONDRO_MAX_EDGES };
-  enum { LAYERS = sizeof layers / sizeof *layers, EDGES = sizeof edges / sizeof *edges, LONG_EDGES = 12 };
-  static Instance inst;
-  for (int k = 0; k < LAYERS; k++)
-    for (int e = 0; e < EDGES; e++)
-      for (int seed = 1; seed <= SEEDS; seed++) {
-        make_layers(&inst, layers[k], edges[e], LONG_EDGES, seed);
-        add_case(g, &inst);
-      }
 }
 
 static int is_here(int program) { return program != LEMON || peer_is_here(); }
@@ -177,9 +157,8 @@ static void print_all(const Group *shapes, const Group *layered) {
 
 int main(void) {
   static Group shapes = { .title = "Shapes, whole or cut" }, layered = { .title = "Layers" };
-  if (shape_count() * SEEDS * SIZES > MAX_CASES) return 2;
-  make_shapes(&shapes);
-  make_layered(&layered);
+  if (!take_x_shapes(add_case, &shapes)) return 2;
+  take_x_layers(add_case, &layered);
   run_group(&shapes);
   run_group(&layered);
   print_group(&shapes);
