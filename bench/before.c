@@ -1,10 +1,11 @@
 // Times this build of the library against an earlier one, on tables of edition 1, which both read.
 //   before FILE..        the shapes of shapes.c, charts with the widest rows, and the stored instances FILE..
-//   before once WHAT     rows, charts or repeated: such calls on the largest shapes once and untimed; prints how many tables there were,
+//   before once WHAT     rows, charts, repeated or xs: such calls on the largest shapes once and untimed; prints how many tables there were,
 //                        and their size
 //
 // bench/before links both libraries, each with the adapters rows_call.c and chart_call.c, and gives the two names of their own. Where the
-// earlier one has the calls that write tables, WRITES is defined and write_call.c is linked too.
+// earlier one has the calls that write tables, WRITES is defined and write_call.c is linked too; where it has the call for x, PLACES and
+// xs_call.c.
 //
 // earlier.c finds out what the earlier build is. Tables that it refuses for their size are left out. Where its rows are bytes they become
 // entries of 16 bits before two answers are compared, behind the clock. Both builds are lent the same buffer and told the same number of
@@ -85,6 +86,14 @@ static void convert_before(const uint8_t *table, size_t length, ChartAnswer *ans
 static void convert_now(const uint8_t *table, size_t length, ChartAnswer *answer) { keep_written(now_call_convert(table, length, out), answer); }
 #endif
 
+#ifdef PLACES
+// x go to the order's place, which is longer, to be compared there.
+static void xs_before(const uint8_t *table, size_t length, ChartAnswer *answer) {
+  answer->refusal = before_call_xs(table, length, answer->order);
+}
+static void xs_now(const uint8_t *table, size_t length, ChartAnswer *answer) { answer->refusal = now_call_xs(table, length, answer->order); }
+#endif
+
 // ---- what is measured of the shapes, at each size ----
 
 static void make_plain(Instance *inst, size_t shape, size_t nodes, uint64_t seed) {
@@ -103,6 +112,13 @@ static void make_repeated(Instance *inst, size_t shape, size_t nodes, uint64_t s
   before_cut_to_accepted(inst);
 }
 
+#ifdef PLACES
+static void make_placed(Instance *inst, size_t shape, size_t nodes, uint64_t seed) {
+  make_plain(inst, shape, nodes, seed);
+  before_cut_to_xs(inst);
+}
+#endif
+
 typedef struct {
   const char *name, *title;  // the name is for `once`
   Call before, now;
@@ -120,6 +136,9 @@ static const Group groups[] = {
   { "", "Reading", read_before, read_now, make_plain, 1 },
   { "", "Writing", write_before, write_now, make_plain, 1 },
   { "", "Converting", convert_before, convert_now, make_plain, 3 },
+#endif
+#ifdef PLACES
+  { "xs", "The call for x", xs_before, xs_now, make_placed, 1 },
 #endif
 };
 enum { GROUPS = sizeof groups / sizeof *groups };

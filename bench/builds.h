@@ -1,5 +1,5 @@
 // The two builds that bench/before links: the adapters rows_call.c, chart_call.c and, where both have the calls that write tables,
-// write_call.c, under a name for each build.
+// write_call.c, and where both have the call for x, xs_call.c, under a name for each build.
 #ifndef BUILDS_H
 #define BUILDS_H
 #include "chart_call.h"
@@ -24,4 +24,8 @@ size_t before_call_write(const uint8_t *table, size_t length, uint8_t *out);
 size_t now_call_write(const uint8_t *table, size_t length, uint8_t *out);
 size_t before_call_convert(const uint8_t *table, size_t length, uint8_t *out);
 size_t now_call_convert(const uint8_t *table, size_t length, uint8_t *out);
+
+unsigned before_call_xs(const uint8_t *table, size_t length, uint16_t *xs);
+void before_cut_to_xs(Instance *inst);
+unsigned now_call_xs(const uint8_t *table, size_t length, uint16_t *xs);
 #endif
