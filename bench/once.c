@@ -4,6 +4,7 @@
 //   once FILE..         the stored instances
 //   once charts NODES   the charts of the shapes of that size, cut to as many edges as are accepted
 //   once xs NODES       the x of the same, cut to as many edges as leave few enough points
+//   once stroke NODES   the strokes of the same, asked for behind the last, so that all lines are gone through
 //   once soft NODES     our rows of the shapes of that size, with soft edges of which about half are turned
 //   once settled NODES  our rows of the same edges as kept or turned
 //   once short NODES    the shapes of that size, read, and written in their shortest form, which they have already
@@ -13,6 +14,7 @@
 #include "rows_call.h"
 #include "sizes.h"
 #include "soft.h"
+#include "strokes_call.h"
 #include "textbook.h"
 #include "write_call.h"
 #include "xs_call.h"
@@ -50,6 +52,16 @@ static void xs_once(Instance *inst) {
   uint16_t xs[YUVATONDRO_MAX_XS];
   cut_to_xs(inst);
   place_once(table, write_table(inst, table), xs);
+}
+// And for strokes.
+__attribute__((noinline)) void seek_once(const uint8_t *table, size_t length) {
+  Stroke stroke;
+  if (call_stroke(table, length, SIZE_MAX, &stroke) != 0 || stroke.what != YUVATONDRO_NO_STROKE) exit(1);
+}
+static void stroke_once(Instance *inst) {
+  static uint8_t table[YUVATONDRO_MAX_STORED];
+  cut_to_xs(inst);
+  seek_once(table, write_table(inst, table));
 }
 // The rows of a table of soft edges, or of the same edges as kept or turned.
 static void soft_once(const SoftInstance *soft, int settled) {
@@ -95,6 +107,7 @@ static int run_shapes(size_t nodes, void (*once)(Instance *)) {
 }
 static int run_charts(size_t nodes) { return run_shapes(nodes, chart_once); }
 static int run_xs(size_t nodes) { return run_shapes(nodes, xs_once); }
+static int run_stroke(size_t nodes) { return run_shapes(nodes, stroke_once); }
 static int run_short(size_t nodes) { return run_shapes(nodes, short_once); }
 static int run_long(size_t nodes) { return run_shapes(nodes, long_once); }
 
@@ -109,7 +122,8 @@ static int run_files(int files, char **paths) {
 
 typedef int (*Run)(size_t nodes);
 static const struct { const char *name; Run run; } named[] = {
-  { "charts", run_charts }, { "xs", run_xs }, { "soft", run_soft }, { "settled", run_settled }, { "short", run_short }, { "long", run_long },
+  { "charts", run_charts }, { "xs", run_xs }, { "stroke", run_stroke }, { "soft", run_soft }, { "settled", run_settled },
+  { "short", run_short }, { "long", run_long },
 };
 static Run find_named(const char *name) {
   for (size_t k = 0; k < sizeof named / sizeof *named; k++) if (strcmp(name, named[k].name) == 0) return named[k].run;
