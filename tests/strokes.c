@@ -77,10 +77,12 @@ typedef struct {
 
 /* The point whose corner a stroke has. */
 static void find_corner(Pen *pen, const yuvatondro_stroke *stroke) {
+  const float end = YUVATONDRO_MAX_XS;
+  expect(stroke->x >= 0 && stroke->x < 12.5f * end && stroke->y >= 0 && stroke->y < 7.25f * end, "a corner outside of every chart");
   unsigned x = (unsigned)(stroke->x / 12.5f);
   pen->row = (unsigned)(stroke->y / 7.25f);
-  expect(stroke->x == 12.5f * (float)x && stroke->y == 7.25f * (float)pen->row, "a corner that is none");
-  expect(x < YUVATONDRO_MAX_XS && pen->row < YUVATONDRO_MAX_XS && point_at[pen->row][x] > 0, "a corner without a point");
+  expect(stroke->x == 12.5f * (float)x && stroke->y == 7.25f * (float)pen->row, "a corner between rows or columns");
+  expect(point_at[pen->row][x] > 0, "a corner without a point");
   pen->point = point_at[pen->row][x] - 1u;
 }
 

@@ -144,8 +144,7 @@ static Edges make_fan(void) {
 }
 
 /* Beside ALONE steps without an edge, and so at x ALONE, the step of a fan, with one dummy behind another on its right: as many points as may
- * have an x, and far larger x than a row of steps would have. No two lines cross in the order by number. Of each three lines the last is
- * turned. */
+ * have an x, and larger x than any row of steps has. No two lines cross in the order by number. Of each three lines the last is turned. */
 static void test_most_columns(void) {
   Edges edges = make_fan();
   Due due[3 * DUMMIES];
