@@ -1,4 +1,4 @@
-/* What the host program of the example knows of a table: the answers of the calls, the edges, and where each point stands. */
+/* What the programs that draw a chart know of a table: the answers of the calls, the kinds and edges, and where each point stands. */
 #ifndef CHART_H
 #define CHART_H
 
@@ -6,8 +6,30 @@
 
 #include "yuvatondro.h"
 
-/* Rows count from 0. Each line has a segment more than it has dummies, and there are no more lines than edges. */
-enum { MAX_ROWS = YUVATONDRO_MAX_ROW + 1, MAX_SEGMENTS = YUVATONDRO_MAX_POINTS + YUVATONDRO_MAX_EDGES };
+/* Rows count from 0. Each line has a segment more than it has dummies and a stroke more than segments, and there are no more lines than
+ * edges. */
+enum {
+  MAX_ROWS = YUVATONDRO_MAX_ROW + 1,
+  MAX_SEGMENTS = YUVATONDRO_MAX_POINTS + YUVATONDRO_MAX_EDGES,
+  MAX_STROKES = MAX_SEGMENTS + YUVATONDRO_MAX_EDGES
+};
+
+/* How a program ends: the table is refused, or there is trouble with the arguments or files. */
+enum { REFUSED = 1, TROUBLE = 2 };
+
+/* In millimetres: from one x to the next, and from one row to the next. */
+#define COLUMN 12.5f
+#define ROW 7.25f
+
+typedef enum { CHECK = 0, ADJUST = 1, WAIT = 2 } Kind;
+
+/* A step as the table has it; the number is the tolerance of an adjustment or the minutes of a wait. The name is a stretch of the table. */
+typedef struct {
+  const uint8_t *name;
+  size_t name_len;
+  Kind kind;
+  unsigned number;
+} Step;
 
 /* As the table has it: the ends of a turned edge are not exchanged here. */
 typedef struct {
@@ -25,6 +47,17 @@ typedef struct {
   unsigned upper, lower, merged;
 } Segment;
 
+/* In millimetres, x from the left and y from the top. */
+typedef struct {
+  float x, y;
+} Corner;
+
+/* A move or a line to a corner. */
+typedef struct {
+  unsigned shape;
+  Corner corner;
+} Stroke;
+
 /* How much of a chart is known. */
 typedef enum { NOTHING, STEPS, ROWS, ORDER } Known;
 
@@ -33,10 +66,9 @@ typedef struct {
   size_t table_len;
   Known known;
 
-  /* known from STEPS on; a name is a stretch of the table */
+  /* known from STEPS on */
   unsigned steps, edges, merged_edges;
-  const uint8_t *name[YUVATONDRO_MAX_STEPS];
-  size_t name_len[YUVATONDRO_MAX_STEPS];
+  Step step[YUVATONDRO_MAX_STEPS];
   Edge edge[YUVATONDRO_MAX_EDGES];
   MergedEdge merged[YUVATONDRO_MAX_EDGES];
   unsigned edge_merged[YUVATONDRO_MAX_EDGES]; /* which of them an edge belongs to */
@@ -61,7 +93,19 @@ typedef struct {
   /* known with ORDER, but for a chart of more points than these */
   int has_xs;
   uint16_t x[YUVATONDRO_MAX_XS];
+
+  /* known with ORDER; the strokes of a line start at line_stroke, and there is one more than its length */
+  unsigned strokes;
+  Stroke stroke[MAX_STROKES];
+  unsigned line_stroke[YUVATONDRO_MAX_EDGES];
+  Corner corner[YUVATONDRO_MAX_POINTS];
 } Chart;
+
+/* load.c: reads a table from a file and asks for its chart, or, if it was stored in long forms, for that of what it is converted to; then
+ * places what is drawn. Gives 0 and the library's answer, which is a refusal or not, or else tells the trouble and gives its status. The
+ * name of the program stands before each message. */
+int load_chart(const char *program, const char *path, Chart *chart, uint64_t *answer);
+int report(const char *program, const char *path);
 
 /* stored.c: whether the library takes the table only by the rule of tables stored before long forms of numbers were refused. Then its
  * shortest form, which the library takes as any other table, stands in a buffer of YUVATONDRO_MAX_SHORTEST bytes, with its length. */
@@ -70,9 +114,12 @@ int convert_stored(const uint8_t *table, size_t table_len, uint8_t *shortest, si
 /* chart.c: asks the library for all that it has to say of the table; its last answer, which is a refusal or not. */
 uint64_t ask_chart(Chart *chart, const uint8_t *table, size_t table_len);
 
-/* edges.c: the edges of the table, and the lines that they are drawn as; and, from ROWS on, whether an edge was turned, the step at its
- * upper and at its lower end, and its length. All this is the same for a line as for its first edge. */
+/* said.c: the kinds and the edges of the table, which the library does not hand out. */
+void read_kinds(Chart *chart);
 void read_edges(Chart *chart);
+
+/* edges.c: the lines that the edges are drawn as; and, from ROWS on, whether an edge was turned, the step at its upper and at its lower
+ * end, and its length. All this is the same for a line as for its first edge. */
 void merge_edges(Chart *chart);
 int is_turned(const Chart *chart, unsigned edge);
 unsigned upper_end(const Chart *chart, unsigned edge);
@@ -82,15 +129,18 @@ unsigned length_of(const Chart *chart, unsigned edge);
 /* points.c: whether the points that the lines make, kept or turned, are those of the library's order; if so they are placed. */
 int place_points(Chart *chart);
 
-/* columns.c: how far from the left the middle of each point is drawn, from widths and the blank between neighbours in any unit; no left side
- * is below 0. By the library's x, and where it has none as lay_out has it. Gives the greatest right side. */
-long find_middles(const Chart *chart, const long *width, long blank, long *middle);
+/* strokes.c: the corner of each point, and, where the library has no strokes, those too; whether they are those of the lines. */
+int place_strokes(Chart *chart);
+
+/* columns.c: how far from the left the middle of each point is written, from widths and the blank between neighbours in any unit; no left
+ * side is below 0. By the library's x, and where it has none as lay_out has it. */
+void find_middles(const Chart *chart, const long *width, long blank, long *middle);
 
 /* layout.c: the same without x. */
-long lay_out(const Chart *chart, const long *width, long blank, long *x);
+void lay_out(const Chart *chart, const long *width, long blank, long *x);
 
 /* refusal.c: a sentence on what a refusal means and what to do about it. */
-void explain_refusal(FILE *out, const Chart *chart, uint64_t answer);
+void explain_refusal(FILE *out, const char *program, const Chart *chart, uint64_t answer);
 
 /* lists.c, draw_text.c, draw_svg.c */
 void list_chart(FILE *out, const Chart *chart);

@@ -1,5 +1,5 @@
-/* How far from the left each point is drawn where the library has an x for each: every x is a column, and all points of a column stand one
- * straight below the other. Of two columns the one with the larger x is further to the right.
+/* How far from the left each point is written where the library has an x for each: every x is a column, and all points of a column stand
+ * one straight below the other. Of two columns the one with the larger x is further to the right.
  *
  * An x knows no widths. A column stands as far to the left as the neighbours in the rows allow: those of a point and of its left neighbour
  * are at least half of both widths and the blank apart, and any column is at least the blank to the right of the one before it. */
@@ -26,16 +26,12 @@ static void place_columns(const Chart *chart, const long *width, long blank, lon
   }
 }
 
-static long lay_columns(const Chart *chart, const long *width, long blank, long *middle) {
-  long place[YUVATONDRO_MAX_XS], right = 0;
-  place_columns(chart, width, blank, place);
-  for (unsigned i = 0; i < chart->points; i++) {
-    middle[i] = place[chart->x[i]];
-    if (middle[i] + width[i] / 2 > right) right = middle[i] + width[i] / 2;
+void find_middles(const Chart *chart, const long *width, long blank, long *middle) {
+  long place[YUVATONDRO_MAX_XS];
+  if (!chart->has_xs) {
+    lay_out(chart, width, blank, middle);
+    return;
   }
-  return right;
-}
-
-long find_middles(const Chart *chart, const long *width, long blank, long *middle) {
-  return chart->has_xs ? lay_columns(chart, width, blank, middle) : lay_out(chart, width, blank, middle);
+  place_columns(chart, width, blank, place);
+  for (unsigned i = 0; i < chart->points; i++) middle[i] = place[chart->x[i]];
 }

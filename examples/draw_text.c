@@ -11,7 +11,7 @@ static int point_text(const Chart *chart, unsigned point, char text[LONGEST]) {
     unsigned edge = chart->merged[chart->point_merged[point]].first;
     return snprintf(text, LONGEST, "%c%u", is_turned(chart, edge) ? '^' : '|', edge);
   }
-  return snprintf(text, LONGEST, "[%u %.*s]", point, (int)chart->name_len[point], (const char *)chart->name[point]);
+  return snprintf(text, LONGEST, "[%u %.*s]", point, (int)chart->step[point].name_len, (const char *)chart->step[point].name);
 }
 
 static void draw_row(FILE *out, const Chart *chart, unsigned row, const long *width, const long *x) {

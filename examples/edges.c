@@ -1,40 +1,5 @@
-/* The edges of a table and their lines, read and joined here and not by the library.
- *
- * The calls hand out counts, names, rows and the order, but not the ends and the firmness of the edges, which a drawing needs. A host
- * program mostly made its table itself and has them; this one has only the bytes. They are walked without any check, because this is done
- * only with a table that yuvatondro_counts has accepted: then every number is complete, and as many edges stand there as were counted. */
+/* The lines that the edges of a table are drawn as, joined here as the library joins them; and which edges it turned, from its rows. */
 #include "chart.h"
-
-/* A number: seven bits a byte, the lowest first; the high bit says that another byte follows. Moves the place behind it. */
-static size_t read_number(const uint8_t **at) {
-  size_t number = 0;
-  unsigned shift = 0;
-  uint8_t byte;
-  do {
-    byte = *(*at)++;
-    number |= (size_t)(byte & 0x7F) << shift;
-    shift += 7;
-  } while (byte & 0x80);
-  return number;
-}
-
-/* The edges stand behind the name of the last step and their own count. Without steps there are none. Firmness is a number of edition 2
- * only; the edges of edition 1 are all must. */
-void read_edges(Chart *chart) {
-  if (chart->steps == 0) return;
-  const uint8_t *at = chart->table;
-  size_t edition = read_number(&at);
-  at = chart->name[chart->steps - 1] + chart->name_len[chart->steps - 1];
-  read_number(&at);
-  for (unsigned i = 0; i < chart->edges; i++) {
-    Edge *e = &chart->edge[i];
-    e->from = read_number(&at);
-    e->to = read_number(&at);
-    e->gap = read_number(&at);
-    e->weight = read_number(&at);
-    e->soft = edition == 1 ? 0 : read_number(&at);
-  }
-}
 
 /* The line that an edge belongs to among those found so far, or their number if it is the first of a new one. */
 static unsigned find_merged(const Chart *chart, const Edge *e) {

@@ -131,18 +131,14 @@ static void move_rows(const Chart *chart, Sides sides, int up, const long *packe
 }
 
 /* Shifts all points so that the least left side is 0. */
-static long shift_to_zero(const Chart *chart, const long *width, long *x) {
-  long left = 0, right = 0;
+static void shift_to_zero(const Chart *chart, const long *width, long *x) {
+  long left = 0;
   for (unsigned i = 0; i < chart->points; i++)
     if (i == 0 || x[i] - width[i] / 2 < left) left = x[i] - width[i] / 2;
-  for (unsigned i = 0; i < chart->points; i++) {
-    x[i] -= left;
-    if (x[i] + width[i] / 2 > right) right = x[i] + width[i] / 2;
-  }
-  return right;
+  for (unsigned i = 0; i < chart->points; i++) x[i] -= left;
 }
 
-long lay_out(const Chart *chart, const long *width, long blank, long *x) {
+void lay_out(const Chart *chart, const long *width, long blank, long *x) {
   long packed[YUVATONDRO_MAX_POINTS];
   for (unsigned row = 0; row < chart->rows; row++) pack_row(chart, row, width, blank, packed);
   for (unsigned i = 0; i < chart->points; i++) x[i] = packed[i];
@@ -151,5 +147,5 @@ long lay_out(const Chart *chart, const long *width, long blank, long *x) {
     move_rows(chart, FROM_BELOW, 1, packed, x);
   }
   for (int round = 0; round < LANE_ROUNDS; round++) move_rows(chart, FROM_BOTH, round % 2, packed, x);
-  return shift_to_zero(chart, width, x);
+  shift_to_zero(chart, width, x);
 }

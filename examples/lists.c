@@ -11,6 +11,7 @@ static void list_numbers(FILE *out, const Chart *chart) {
   fprintf(out, "points    %u\n", chart->points);
   fprintf(out, "total     %lu\n", chart->total);
   fprintf(out, "crossings %lu\n", chart->crossings);
+  if (chart->has_xs) fprintf(out, "strokes   %u\n", chart->strokes);
 }
 
 /* A number, or a dash where there is none. */
@@ -27,7 +28,7 @@ static void list_steps(FILE *out, const Chart *chart) {
     fprintf(out, "%4u", i);
     list_number(out, chart->known >= ROWS, chart->row[i]);
     list_number(out, chart->has_xs, chart->has_xs ? chart->x[i] : 0);
-    fprintf(out, "  %.*s\n", (int)chart->name_len[i], (const char *)chart->name[i]);
+    fprintf(out, "  %.*s\n", (int)chart->step[i].name_len, (const char *)chart->step[i].name);
   }
 }
 

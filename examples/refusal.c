@@ -25,7 +25,9 @@ static const char *const sentences[] = {
     [YUVATONDRO_SHORT_BUFFER] = "this program lent too small a buffer; that is a mistake in the program, not in the table",
     [YUVATONDRO_NO_STEP] = "this program asked for a step that is not there; that is a mistake in the program, not in the table",
     [YUVATONDRO_BAD_FIRMNESS] = "an edge is neither must nor soft; correct its firmness, 0 or 1",
-    [YUVATONDRO_LARGE_CHART] = "the chart has more than # points, for which there are no x; lay it out without, or split the alignment",
+    [YUVATONDRO_LARGE_CHART] =
+        "the chart has more than # points, for which there are no x and no strokes; the picture of examples/ does without, or split the "
+        "alignment",
 };
 
 static unsigned limit_of(unsigned refusal) {
@@ -46,15 +48,16 @@ static void put_sentence(FILE *out, unsigned refusal) {
     fprintf(out, "%.*s%u%s", (int)(limit - sentence), sentence, limit_of(refusal), limit + 1);
 }
 
-void explain_refusal(FILE *out, const Chart *chart, uint64_t answer) {
+void explain_refusal(FILE *out, const char *program, const Chart *chart, uint64_t answer) {
   unsigned refusal = yuvatondro_refusal(answer);
-  fprintf(out, "host: refused %u: ", refusal);
+  fprintf(out, "%s: refused %u: ", program, refusal);
   put_sentence(out, refusal);
   fprintf(out, "\n");
   if (refusal == YUVATONDRO_LOOP) {
     unsigned step = yuvatondro_loop_step(answer);
-    fprintf(out, "host: the lowest step on such a loop is %u, %.*s\n", step, (int)chart->name_len[step], (const char *)chart->name[step]);
+    const Step *s = &chart->step[step];
+    fprintf(out, "%s: the lowest step on such a loop is %u, %.*s\n", program, step, (int)s->name_len, (const char *)s->name);
   } else if (refusal <= YUVATONDRO_SPARE || refusal == YUVATONDRO_BAD_FIRMNESS) {
-    fprintf(out, "host: 'tools/table read' on the same file tells the byte\n");
+    fprintf(out, "%s: 'tools/table read' on the same file tells the byte\n", program);
   }
 }
