@@ -1,7 +1,8 @@
 /* The chart as SVG, from its strokes: each line has its corners exactly where the strokes have them, in millimetres. A step is a box whose
  * middle is its corner, with its name, its number and its kind; the lines of it end in its middle, behind the box, and the tip of one that
- * leads to it stands where that one meets the box. Boxes let a little of what is behind them through, so that a line that passes behind one
- * on a long slant can be followed. No box is wider than a column or as high as a row, so none touches another.
+ * leads to it stands where that one meets the box. A line of other steps that passes behind a box on a long slant is drawn faintly on it,
+ * so that it can be followed and is not taken for one that ends there. No box is wider than a column or as high as a row, so none touches
+ * another.
  *
  * Only lines between the same two steps in neighbouring rows can have the same corners, and no two of them are of one style: they lie on
  * each other, the must line lowest, and each is drawn wider than those above it. Hovering over a box or a line tells more of it. */
@@ -179,6 +180,40 @@ static void draw_lines(FILE *out, const Chart *chart) {
   fprintf(out, "</g>\n");
 }
 
+/* Of a way from 0 to 1 that starts at one number and goes along another, the part between two bounds; whether there is any. */
+static int keep_between(double start, double along, double low, double high, double *first, double *last) {
+  if (along == 0) return low < start && start < high;
+  double in = (along > 0 ? low - start : high - start) / along, out = (along > 0 ? high - start : low - start) / along;
+  if (*first < in) *first = in;
+  if (*last > out) *last = out;
+  return *first < *last;
+}
+
+static int is_same(Corner a, Corner b) { return a.x == b.x && a.y == b.y; }
+
+/* A stroke where it passes the box of a step, if it does and does not lead to it or from it. */
+static void draw_pass(FILE *out, const Chart *chart, unsigned step, unsigned line, Corner from, Corner to) {
+  Corner middle = chart->corner[step];
+  double wide = box_width(chart, step) / 2, high = BOX_HEIGHT / 2, dx = to.x - from.x, dy = to.y - from.y, first = 0, last = 1;
+  if (is_same(from, middle) || is_same(to, middle)) return;
+  if (!keep_between(from.y, dy, middle.y - high, middle.y + high, &first, &last)) return;
+  if (!keep_between(from.x, dx, middle.x - wide, middle.x + wide, &first, &last)) return;
+  const Edge *e = &chart->edge[chart->merged[line].first];
+  LineStyle style = style_of(chart, line);
+  fprintf(out,
+          "<path class=\"pass %s\" data-from=\"%zu\" data-to=\"%zu\" d=\"M%.3f %.3fL%.3f %.3f\" stroke=\"%s\" stroke-opacity=\"0.4\"/>",
+          style_class[style], e->from, e->to, from.x + first * dx, from.y + first * dy, from.x + last * dx, from.y + last * dy,
+          style_colour[style]);
+}
+
+static void draw_passes(FILE *out, const Chart *chart, unsigned step) {
+  for (unsigned i = 0; i < chart->merged_edges; i++) {
+    const Stroke *stroke = &chart->stroke[chart->line_stroke[i]];
+    unsigned strokes = length_of(chart, chart->merged[i].first) + 1;
+    for (unsigned j = 1; j < strokes; j++) draw_pass(out, chart, step, i, stroke[j - 1].corner, stroke[j].corner);
+  }
+}
+
 /* A text of a known width, whatever font there is. */
 static void open_text(FILE *out, const char *class, const Corner *middle, double foot, double size, double letters) {
   fprintf(out, "<text class=\"%s\" x=\"%g\" y=\"%.3f\" font-size=\"%.3f\" textLength=\"%.3f\" lengthAdjust=\"spacingAndGlyphs\">", class,
@@ -193,9 +228,9 @@ static void draw_step(FILE *out, const Chart *chart, unsigned step) {
   int note_length = note_text(chart, step, note, sizeof note);
   fprintf(out, "<g class=\"step %s\" data-step=\"%u\"><title>", kind_class[s->kind], step);
   put_step_title(out, chart, step);
-  fprintf(out,
-          "</title><rect x=\"%.3f\" y=\"%.3f\" width=\"%.3f\" height=\"%.3f\" rx=\"0.7\" fill=\"%s\" fill-opacity=\"0.88\" stroke=\"%s\"/>",
+  fprintf(out, "</title><rect x=\"%.3f\" y=\"%.3f\" width=\"%.3f\" height=\"%.3f\" rx=\"0.7\" fill=\"%s\" stroke=\"%s\"/>",
           middle->x - width / 2, middle->y - BOX_HEIGHT / 2, width, BOX_HEIGHT, kind_fill[s->kind], kind_border[s->kind]);
+  draw_passes(out, chart, step);
   open_text(out, "name", middle, NAME_FOOT, name_size(s), (double)s->name_len);
   put_name(out, chart, step);
   fprintf(out, "</text>");

@@ -30,9 +30,9 @@ static const char PAGE_STYLE[] =
     ".list { padding-left: 1.2rem; overflow-wrap: anywhere; }\n"
     "@media screen and (prefers-color-scheme: dark) {\n"
     "  :root { --ink: #e4e9ee; --soft-ink: #a3b0bd; --rule: #39434d; --page: #14191e; }\n"
-    "  .edge.must { stroke: #93a5b6; } marker .must { fill: #93a5b6; }\n"
-    "  .edge.soft { stroke: #63a9ee; } marker .soft { fill: #63a9ee; }\n"
-    "  .edge.turned { stroke: #f0905f; } marker .turned, .mark { fill: #f0905f; } .mark { stroke: var(--page); }\n"
+    "  .edge.must, .pass.must { stroke: #93a5b6; } marker .must { fill: #93a5b6; }\n"
+    "  .edge.soft, .pass.soft { stroke: #63a9ee; } marker .soft { fill: #63a9ee; }\n"
+    "  .edge.turned, .pass.turned { stroke: #f0905f; } marker .turned, .mark { fill: #f0905f; } .mark { stroke: var(--page); }\n"
     "  .rows { fill: #7d8a97; } .rows path { stroke: #262e35; }\n"
     "  .steps { fill: var(--ink); }\n"
     "  .check rect { fill: #1f2a35; stroke: #7f9cba; }\n"
@@ -49,7 +49,7 @@ static const char PAGE_STYLE[] =
 /* Lines that do not touch the step under the pointer step back. */
 static const char PAGE_SCRIPT[] =
     "(function () {\n"
-    "  var chart = document.querySelector('.chart'), lines = chart.querySelectorAll('.line');\n"
+    "  var chart = document.querySelector('.chart'), lines = chart.querySelectorAll('.line, .pass');\n"
     "  chart.addEventListener('pointerover', function (event) {\n"
     "    var step = event.target.closest('.step');\n"
     "    lines.forEach(function (line) {\n"
