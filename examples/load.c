@@ -37,7 +37,7 @@ int load_chart(const char *program, const char *path, Chart *chart, uint64_t *an
   if (status != 0) return status;
   *answer = ask_stored(program, chart, table, table_len);
   if (chart->known == ORDER && !(place_points(chart) && place_strokes(chart))) {
-    fprintf(stderr, "%s: the edges that said.c reads are not those of the library\n", program);
+    fprintf(stderr, "%s: the lines that this program makes are not those of the library\n", program);
     return TROUBLE;
   }
   return 0;

@@ -86,7 +86,9 @@ static void put_chart(FILE *out, const Chart *chart) {
 
 static void list_steps(FILE *out, const Chart *chart) {
   char kind[32];
-  fprintf(out, "<table>\n<caption>Steps</caption>\n<tr><th>step</th><th>name</th><th>kind</th><th>row</th><th>x</th></tr>\n");
+  fprintf(out,
+          "<table>\n<caption>Steps</caption>\n<tr><th>step</th><th class=\"word\">name</th>"
+          "<th class=\"word\">kind</th><th>row</th><th>x</th></tr>\n");
   for (unsigned i = 0; i < chart->steps; i++) {
     kind_text(&chart->step[i], kind, sizeof kind);
     fprintf(out, "<tr><td>%u</td><td class=\"word\">", i);
@@ -100,7 +102,7 @@ static void list_steps(FILE *out, const Chart *chart) {
 static void put_lists(FILE *out, const Chart *chart) {
   fprintf(out, "<details>\n<summary>Steps and lines as lists</summary>\n");
   list_steps(out, chart);
-  fprintf(out, "<ul class=\"list\">\n");
+  fprintf(out, "<p class=\"caption\">Lines</p>\n<ul class=\"list\">\n");
   for (unsigned i = 0; i < chart->merged_edges; i++) {
     fprintf(out, "<li>");
     put_line_title(out, chart, i);
