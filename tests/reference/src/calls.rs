@@ -1,10 +1,11 @@
-//! The eight calls as a C caller meets them: packed answers, lent buffers.
+//! The nine calls as a C caller meets them: packed answers, lent buffers.
 
 use crate::chart::{draw_chart, Chart};
 use crate::records::{rows_of_records, Record};
 use crate::refusal::Refusal;
 use crate::shortest::{said, shortest};
 use crate::soft::rows_of_table;
+use crate::strokes::{list_strokes, Corner, Stroke};
 use crate::table::{read_stored, read_table, Table};
 use crate::xs::find_xs;
 
@@ -46,6 +47,12 @@ pub fn chart(bytes: &[u8], rows: &mut [u16], order: &mut [u16]) -> u64 {
 pub fn xs(bytes: &[u8], buffer: &mut [u16]) -> u64 {
     let chart = read_table(bytes).and_then(|table| draw_chart(&table));
     pack(hand_out_xs(&chart.and_then(|chart| find_xs(&chart)), buffer))
+}
+
+pub fn stroke_at(bytes: &[u8], index: usize) -> StrokeAnswer {
+    let chart = read_table(bytes).and_then(|table| draw_chart(&table));
+    let strokes = chart.and_then(|chart| Ok(list_strokes(&chart, &find_xs(&chart)?)));
+    hand_out_stroke(&strokes, index)
 }
 
 pub fn write(bytes: &[u8], buffer: &mut [u8]) -> u64 {
@@ -92,6 +99,28 @@ pub fn hand_out_chart(chart: &Result<Chart, Refusal>, rows: &mut [u16], order: &
 pub fn hand_out_xs(xs: &Result<Vec<usize>, Refusal>, buffer: &mut [u16]) -> Result<u64, Refusal> {
     hand_out_rows(xs, buffer)?;
     Ok((xs.as_ref().map_or(0, Vec::len) as u64) << 8)
+}
+
+/// A word and the bits of two floats.
+#[derive(Clone, Copy, PartialEq, Eq, Debug)]
+pub struct StrokeAnswer {
+    pub answer: u64,
+    pub corner: Corner,
+}
+
+/// The numbers of the two cases; that of none is 0.
+pub const MOVE: u64 = 1;
+pub const LINE: u64 = 2;
+
+/// Both floats are 0 where there is no stroke.
+pub fn hand_out_stroke(strokes: &Result<Vec<Stroke>, Refusal>, index: usize) -> StrokeAnswer {
+    let (answer, corner) = match strokes.as_ref().map(|strokes| strokes.get(index)) {
+        Err(&refusal) => (pack_refusal(refusal), Corner::default()),
+        Ok(None) => (0, Corner::default()),
+        Ok(Some(&Stroke::Move(corner))) => (MOVE << 8, corner),
+        Ok(Some(&Stroke::Line(corner))) => (LINE << 8, corner),
+    };
+    StrokeAnswer { answer, corner }
 }
 
 pub fn hand_out_bytes(written: &[u8], buffer: &mut [u8]) -> Result<u64, Refusal> {

@@ -33,7 +33,7 @@ fn chain(steps: usize, edges: usize, gap: u32) -> Draft {
     Draft { steps: vec![(Kind::Check, vec![b's']); steps], edges, firmness: None }
 }
 
-fn refusals(bytes: &[u8]) -> [u64; 7] {
+fn refusals(bytes: &[u8]) -> [u64; 8] {
     let (mut rows, mut order, mut written) = ([0; STEPS], [0; MAX_POINTS], [0; LONGEST]);
     let table = read_table(bytes);
     [
@@ -42,6 +42,7 @@ fn refusals(bytes: &[u8]) -> [u64; 7] {
         calls::rows(bytes, &mut rows),
         calls::chart(bytes, &mut rows, &mut order),
         calls::xs(bytes, &mut order),
+        calls::stroke_at(bytes, EDGES).answer,
         calls::write(bytes, &mut written),
         calls::convert(bytes, &mut written),
     ]
@@ -54,7 +55,7 @@ fn counts_met_and_passed() {
         [(STEPS, 0, 0), (STEPS + 1, 0, 4), (STEPS, EDGES, 0), (STEPS, EDGES + 1, 8), (2, EDGES + 1, 8)]
     {
         let bytes = write_table(&chain(steps, edges, 1));
-        assert_eq!(refusals(&bytes), [due; 7], "{steps} steps, {edges} edges");
+        assert_eq!(refusals(&bytes), [due; 8], "{steps} steps, {edges} edges");
     }
     let counts = calls::pack(calls::counts(&read_table(&write_table(&chain(STEPS, EDGES, 1)))));
     assert_eq!(counts, (STEPS as u64) << 8 | (EDGES as u64) << 16);
