@@ -6,7 +6,7 @@ use std::env;
 use std::path::Path;
 use std::process::Command;
 
-const CALLS: [&str; 8] = ["counts", "name", "rows", "records", "chart", "write", "convert", "xs"];
+const CALLS: [&str; 9] = ["counts", "name", "rows", "records", "chart", "write", "convert", "xs", "stroke_at"];
 
 fn run(program: &str, arguments: &[String]) -> String {
     let output = Command::new(program).args(arguments).output().expect("the tool starts");

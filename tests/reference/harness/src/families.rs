@@ -14,12 +14,14 @@ mod records;
 mod shortest;
 mod soft;
 mod spoiled;
+mod strokes;
 mod tall;
 mod xs;
 
 use reference::random::Random;
 
 use crate::judge::Judge;
+use crate::shapes;
 
 pub struct Family {
     pub name: &'static str,
@@ -58,6 +60,10 @@ pub const FAMILIES: &[Family] = &[
     fixed("equal edges", merged::EQUAL, merged::all_equal),
     fixed("all short tables", bytes::SHORT_TABLES, bytes::all_short),
     fixed("all short soft edges", bytes::SHORT_TABLES, bytes::all_short_soft),
+    fixed("refused strokes", 1, strokes::refused),
+    fixed("no strokes", shapes::STEPS + 1, strokes::none),
+    fixed("stroke counts", strokes::COUNTED, strokes::counts),
+    fixed("tall strokes", strokes::TALL, strokes::tall),
     endless("tiny", 6000, graphs::tiny),
     endless("mixed firmness", 4000, soft::mixed),
     endless("all soft", 2000, soft::all_soft),
@@ -98,6 +104,11 @@ pub const FAMILIES: &[Family] = &[
     endless("unlike rows", 400, xs::unlike_rows),
     endless("heavy pieces", 800, xs::heavy_pieces),
     endless("among pass points", 1000, xs::among_pass_points),
+    endless("turned strokes", 400, strokes::turned),
+    endless("joined strokes", 600, strokes::joined),
+    endless("stroke point limit", 120, strokes::near_limit),
+    endless("wide strokes", 48, strokes::wide),
+    endless("most strokes", 64, strokes::most),
     endless("tall", 200, tall::tall),
     endless("tall soft", 120, tall::tall_soft),
     endless("old limits", 200, old::within),

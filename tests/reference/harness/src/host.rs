@@ -1,6 +1,17 @@
 //! The library under test. Calls that it does not export are never reached: see `exported`.
 
+use reference::calls::StrokeAnswer;
+
 mod linked {
+    /// As the header has it, by value.
+    #[cfg(host_stroke_at)]
+    #[repr(C)]
+    pub struct Stroke {
+        pub answer: u64,
+        pub x: f32,
+        pub y: f32,
+    }
+
     extern "C" {
         #[cfg(host_counts)]
         pub fn yuvatondro_counts(table: *const u8, table_len: usize) -> u64;
@@ -31,10 +42,12 @@ mod linked {
         pub fn yuvatondro_convert(table: *const u8, table_len: usize, out: *mut u8, out_len: usize) -> u64;
         #[cfg(host_xs)]
         pub fn yuvatondro_xs(table: *const u8, table_len: usize, xs: *mut u16, xs_len: usize) -> u64;
+        #[cfg(host_stroke_at)]
+        pub fn yuvatondro_stroke_at(table: *const u8, table_len: usize, index: usize) -> Stroke;
     }
 }
 
-pub const CALLS: [&str; 8] = ["counts", "name", "rows", "records", "chart", "write", "convert", "xs"];
+pub const CALLS: [&str; 9] = ["counts", "name", "rows", "records", "chart", "write", "convert", "xs", "stroke_at"];
 pub const COUNTS: usize = 0;
 pub const NAME: usize = 1;
 pub const ROWS: usize = 2;
@@ -43,6 +56,7 @@ pub const CHART: usize = 4;
 pub const WRITE: usize = 5;
 pub const CONVERT: usize = 6;
 pub const XS: usize = 7;
+pub const STROKE_AT: usize = 8;
 
 /// Some of the calls.
 pub type Calls = [bool; CALLS.len()];
@@ -57,6 +71,7 @@ pub fn exported() -> Calls {
         cfg!(host_write),
         cfg!(host_convert),
         cfg!(host_xs),
+        cfg!(host_stroke_at),
     ]
 }
 
@@ -126,5 +141,18 @@ pub fn xs(table: Bytes, xs: EntriesMut) -> u64 {
     #[cfg(host_xs)]
     return unsafe { linked::yuvatondro_xs(table.0, table.1, xs.0, xs.1) };
     #[cfg(not(host_xs))]
+    unreachable!()
+}
+
+/// The floats as their bits, so that -0 is not 0 and what is no number can be told.
+#[allow(unused_variables)]
+pub fn stroke_at(table: Bytes, index: usize) -> StrokeAnswer {
+    #[cfg(host_stroke_at)]
+    {
+        let linked::Stroke { answer, x, y } = unsafe { linked::yuvatondro_stroke_at(table.0, table.1, index) };
+        let corner = reference::strokes::Corner { x: x.to_bits(), y: y.to_bits() };
+        return StrokeAnswer { answer, corner };
+    }
+    #[cfg(not(host_stroke_at))]
     unreachable!()
 }

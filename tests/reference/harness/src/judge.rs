@@ -4,6 +4,7 @@ mod kept;
 mod lists;
 mod placed;
 mod printed;
+mod strokes;
 mod written;
 mod xs;
 

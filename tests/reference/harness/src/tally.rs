@@ -2,11 +2,13 @@
 
 use std::time::Duration;
 
+use reference::calls::StrokeAnswer;
 use reference::chart::Chart;
 use reference::forces::Piece;
 use reference::order::{positions, PASSES};
 use reference::points::MAX_POINTS;
 use reference::refusal::Refusal;
+use reference::strokes::Corner;
 use reference::xs::pieces_of;
 
 use crate::host::{CALLS, CHART, CONVERT, RECORDS, WRITE};
@@ -34,6 +36,7 @@ pub struct Tally {
     /// Tables with rows that no byte holds, and the highest row of all.
     tall: (u64, usize),
     x: XTally,
+    strokes: StrokeTally,
     /// By the call, tables written, and those of them that came in more bytes.
     written: [(u64, u64); CALLS.len()],
     /// Time spent in each call.
@@ -54,6 +57,18 @@ struct XTally {
     largest: usize,
 }
 
+/// What was asked for in the call for strokes.
+#[derive(Clone, Copy, Default)]
+struct StrokeTally {
+    /// Answers of accepted tables, by the number of the case: none, moves and lines.
+    by_case: [u64; 3],
+    /// The largest index that has a stroke, and the largest floats, each by its bits.
+    largest: usize,
+    farthest: Corner,
+    /// Charts of which all strokes were held against rows and x.
+    drawings: u64,
+}
+
 impl Tally {
     pub fn new() -> Tally {
         Tally {
@@ -67,6 +82,7 @@ impl Tally {
             merged: (0, 0, 0),
             tall: (0, 0),
             x: XTally::default(),
+            strokes: StrokeTally::default(),
             written: [(0, 0); CALLS.len()],
             spent: [Duration::ZERO; CALLS.len()],
             slowest: [(Duration::ZERO, "", 0); CALLS.len()],
@@ -107,6 +123,22 @@ impl Tally {
         self.x.largest = self.x.largest.max(xs.iter().copied().max().unwrap_or(0));
     }
 
+    pub fn note_stroke(&mut self, StrokeAnswer { answer, corner }: &StrokeAnswer, index: usize) {
+        let case = (answer >> 8) as usize;
+        if answer & 0xff > 0 {
+            return;
+        }
+        let noted = &mut self.strokes;
+        noted.by_case[case] += 1;
+        noted.largest = noted.largest.max(if case > 0 { index } else { 0 });
+        // Floats from 0 up are in the order of their bits.
+        noted.farthest = Corner { x: noted.farthest.x.max(corner.x), y: noted.farthest.y.max(corner.y) };
+    }
+
+    pub fn note_drawing(&mut self) {
+        self.strokes.drawings += 1;
+    }
+
     pub fn note_written(&mut self, call: usize, table_len: usize, shortest: usize) {
         self.written[call].0 += 1;
         self.written[call].1 += u64::from(shortest < table_len);
@@ -126,7 +158,7 @@ impl Tally {
             let (time, family, group) = self.slowest[call];
             let (calls, longest) = (self.by_call[call], time.as_secs_f64() * 1e6);
             let mean = self.spent[call].as_secs_f64() * 1e6 / calls as f64;
-            println!("{name:8} {calls:9} calls, mean {mean:.1} us, slowest {longest:.1} us ({family}, group {group})");
+            println!("{name:9} {calls:9} calls, mean {mean:.1} us, slowest {longest:.1} us ({family}, group {group})");
         }
         let refused = list_counts(&self.by_refusal, 1..=REFUSALS);
         println!("calls:    accepted {}; refusals {refused}", self.by_refusal[0]);
@@ -144,6 +176,10 @@ impl Tally {
         let XTally { charts, refused, leaning, moved, largest } = self.x;
         println!("charts with x: {charts}, largest x {largest}; charts of too many points for x: {refused}");
         println!("charts with pieces that are not straight: {leaning}, with points past their positions: {moved}");
+        let StrokeTally { by_case: [none, moves, lines], largest, farthest, drawings } = self.strokes;
+        let [x, y] = [farthest.x, farthest.y].map(f32::from_bits);
+        println!("strokes: {moves} moves, {lines} lines, {none} times none; largest index of one {largest}");
+        println!("charts drawn whole: {drawings}; largest x of a corner {x} mm, largest y {y} mm");
         for (call, what) in [(WRITE, "written"), (CONVERT, "converted")] {
             let (tables, shorter) = self.written[call];
             println!("tables {what}: {tables}, of them shorter than they came: {shorter}");

@@ -58,7 +58,7 @@ pub fn finish_case(cases: u64) {
 }
 
 /// Runs one call under watch and says how long it took.
-pub fn timed(call: usize, run: impl FnOnce() -> u64) -> (u64, Duration) {
+pub fn timed<T>(call: usize, run: impl FnOnce() -> T) -> (T, Duration) {
     CALL.store(call, SeqCst);
     SINCE.store(now() + 1, SeqCst);
     let began = Instant::now();

@@ -68,6 +68,11 @@ pub fn near_x_limit(judge: &mut Judge, random: &mut Random, group: usize) {
     judge_near(judge, group, &draft_of(random, steps, &edges));
 }
 
+/// So many points, with every kind of lines along a chain of so many links, for the most part against it.
+pub fn along_chain(random: &mut Random, target: usize, repeats: usize, size: Size) -> (usize, Vec<TableEdge>) {
+    Plan { target, kinds: &[Kind::Turned, Kind::Turned, Kind::Kept, Kind::Must], repeats, size }.find(random)
+}
+
 /// Few steps with as many lines between them as there are points for: charts have the most segments and crossings.
 pub fn most_segments(judge: &mut Judge, random: &mut Random, _: usize) {
     let links = random.between(15, 20);
@@ -117,7 +122,7 @@ const ALL_KINDS: [Kind; 3] = [Kind::Must, Kind::Kept, Kind::Turned];
 type Line = (usize, usize, Kind);
 
 /// How many steps, and how many links the chain is to have.
-type Size = fn(&mut Random) -> (usize, usize);
+pub type Size = fn(&mut Random) -> (usize, usize);
 
 /// What chart is wanted: its points, the kinds of edges besides the must edges of the chain, and how many edges repeat others
 /// for each that does not, as far as there may be so many.

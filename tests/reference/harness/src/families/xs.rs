@@ -84,7 +84,7 @@ fn wide_beside(random: &mut Random, below: bool) -> (usize, Vec<TableEdge>) {
 
 /// A row of pass points alone between few steps, for the most part with as many points as may get x: must lines between all
 /// pairs of steps, and soft ones along them and against them.
-fn wide_between(random: &mut Random) -> (usize, Vec<TableEdge>) {
+pub fn wide_between(random: &mut Random) -> (usize, Vec<TableEdge>) {
     let (upper, lower) = (random.between(2, 7), random.between(2, 7));
     let steps = upper + lower;
     let pairs = (0..upper).flat_map(|up| (upper..steps).map(move |low| (up, low)));

@@ -6,8 +6,9 @@ use reference::refusal::Refusal;
 use reference::soft::{place_table, Placed};
 use reference::table::read_table;
 
+use super::xs::xs_of;
 use super::Judge;
-use crate::host::{CHART, ROWS, XS};
+use crate::host::{CHART, ROWS, STROKE_AT, XS};
 
 impl Judge {
     /// The calls on a whole chart and the program alone, for tables that are new in the order of their points only.
@@ -19,10 +20,14 @@ impl Judge {
     }
 
     pub(super) fn wants_chart(&self) -> bool {
-        self.wanted[CHART] || self.wanted[XS]
+        self.wanted[CHART] || self.wants_xs()
     }
 
-    /// Rows, chart and x, whose rows are worked out once.
+    fn wants_xs(&self) -> bool {
+        self.wanted[XS] || self.wanted[STROKE_AT]
+    }
+
+    /// Rows, chart, x and strokes, whose rows are worked out once.
     pub(super) fn judge_placed(&mut self, bytes: &[u8], placed: Result<Placed, Refusal>) {
         if self.wanted[ROWS] {
             let rows = rows_of(&placed);
@@ -41,8 +46,15 @@ impl Judge {
         if self.wanted[CHART] {
             self.judge_chart(bytes, chart);
         }
+        if !self.wants_xs() {
+            return;
+        }
+        let xs = xs_of(chart);
         if self.wanted[XS] {
-            self.judge_xs(bytes, chart);
+            self.judge_xs(bytes, chart, &xs);
+        }
+        if self.wanted[STROKE_AT] {
+            self.judge_strokes(bytes, chart, &xs);
         }
     }
 

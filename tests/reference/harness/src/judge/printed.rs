@@ -74,11 +74,7 @@ impl Judge {
             _ => &self.programs.convert,
         };
         let Some(program) = program else { return };
-        let mut fault = None;
-        watch::timed(call, || {
-            fault = program.compare(input, expected);
-            0
-        });
+        let (fault, _) = watch::timed(call, || program.compare(input, expected));
         self.tally.note_output(call, refusal_of(expected));
         self.settle(call, fault, || format!("the program, input {}", hex(input)));
     }

@@ -9,18 +9,17 @@ use super::{answer_fault, entries_fault, hex, Judge};
 use crate::host::{self, XS};
 use crate::watch;
 
-type Xs = Result<Vec<usize>, Refusal>;
+pub(super) type Xs = Result<Vec<usize>, Refusal>;
 
 impl Judge {
     /// With buffers exact and one other choice.
-    pub(super) fn judge_xs(&mut self, bytes: &[u8], chart: &Result<Chart, Refusal>) {
-        let xs = xs_of(chart);
+    pub(super) fn judge_xs(&mut self, bytes: &[u8], chart: &Result<Chart, Refusal>, xs: &Xs) {
         if let Ok(chart) = chart {
-            self.tally.note_xs(chart, &xs);
+            self.tally.note_xs(chart, xs);
         }
         let needed = xs.as_ref().map_or(0, Vec::len);
         for len in [needed, self.other_len(needed, xs.is_err())] {
-            self.compare_xs(bytes, &xs, len);
+            self.compare_xs(bytes, xs, len);
         }
     }
 
@@ -51,6 +50,6 @@ impl Judge {
     }
 }
 
-fn xs_of(chart: &Result<Chart, Refusal>) -> Xs {
+pub(super) fn xs_of(chart: &Result<Chart, Refusal>) -> Xs {
     chart.as_ref().map_err(|&refusal| refusal).and_then(find_xs)
 }
