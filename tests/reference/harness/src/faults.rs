@@ -66,6 +66,9 @@ fn trials(fault: &str) -> Vec<Vec<&'static str>> {
     if fault.starts_with("xs") {
         return each_alone(&["xs"]);
     }
+    if fault.starts_with("stroke") {
+        return each_alone(&["stroke_at"]);
+    }
     if NUMBERED.contains(&fault) {
         return each_alone(&["chart", "xs"]);
     }

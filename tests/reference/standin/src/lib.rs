@@ -2,6 +2,7 @@
 //! STANDIN_FAULT chooses a deliberately wrong variant, so that the comparison itself can be tried.
 
 mod answers;
+mod answers_strokes;
 mod answers_xs;
 pub mod fault;
 pub mod wrong_chart;
@@ -12,6 +13,7 @@ mod wrong_order;
 mod wrong_rows;
 mod wrong_soft;
 mod wrong_spelling;
+mod wrong_strokes;
 pub mod wrong_table;
 mod wrong_writing;
 mod wrong_xs;
@@ -71,4 +73,13 @@ pub unsafe extern "C" fn yuvatondro_convert(table: *const u8, table_len: usize, 
 #[no_mangle]
 pub unsafe extern "C" fn yuvatondro_xs(table: *const u8, table_len: usize, xs: *mut u16, xs_len: usize) -> u64 {
     unsafe { answers_xs::xs(from_raw_parts(table, table_len), from_raw_parts_mut(xs, xs_len)) }
+}
+
+#[no_mangle]
+pub unsafe extern "C" fn yuvatondro_stroke_at(
+    table: *const u8,
+    table_len: usize,
+    index: usize,
+) -> answers_strokes::Stroke {
+    answers_strokes::stroke_at(unsafe { from_raw_parts(table, table_len) }, index)
 }
