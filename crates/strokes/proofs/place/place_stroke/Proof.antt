@@ -58,7 +58,9 @@ stroke-to-requires c κs =
     let pre = start c .pre in
     let laid = c .before .before .lay-rows .ensures in
     let v = start c .args .v in
-    (x-low _ _ _ (pre .0) _ _ laid (pre .1 .0) v (pre .1 .1) _ (c .space-lines .ensures), row-low _ _ _ (pre .0) _ _ laid (pre .1 .0) v (pre .1 .1))
+    let x = x-low _ _ _ (pre .0) _ _ laid (pre .1 .0) v (pre .1 .1) _ (c .space-lines .ensures) in
+    let row = row-low _ _ _ (pre .0) _ _ laid (pre .1 .0) v (pre .1 .1) in
+    (omega (arith, x, row), omega (arith, x, row))
 
 returns : tie.Need-returns
 returns c =
