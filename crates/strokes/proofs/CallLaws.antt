@@ -45,16 +45,17 @@ use Rattle.coordinates.specs.Costing.{Lined}
 use Rattle.corners.specs.declared.Stroke.{Stroke}
 use Rattle.corners.specs.Corners.{maxPlace, Stands}
 use Rattle.corners.specs.Strokes.{endOf}
-use Rattle.strokes.specs.declared.visit.Visit.{Visit}
-use Rattle.strokes.specs.declared.visit.VisitAnswer.{VisitAnswer}
-use Rattle.strokes.specs.declared.visit.VisitAnswer.the-variants.{To, Nowhere}
+use Rattle.routes.specs.declared.Visit.{Visit}
+use Rattle.routes.specs.declared.VisitAnswer.{VisitAnswer}
+use Rattle.routes.specs.declared.VisitAnswer.the-variants.{To, Nowhere}
 use Rattle.strokes.specs.declared.StrokeAnswer.{StrokeAnswer}
 use Rattle.strokes.specs.declared.StrokeAnswer.the-variants.{At, Nothing, Refused}
-use Rattle.strokes.specs.Routes.{noVisit, visitsFrom, visitsOf}
-use Rattle.strokes.specs.Calls.{strokeOf, strokesOf, strokesOfTable, answerOf, strokeAt, strokeCall, CornerExact, AnswerExact}
-use Rattle.strokes.specs.Finding.{visitAnswer, Routable, StrokePlaced}
-use Rattle.strokes.proofs.LeadLaws.{chart-lead}
-use Rattle.strokes.proofs.RouteLaws.{visits-in}
+use Rattle.routes.specs.Routes.{noVisit, visitsFrom}
+use Rattle.strokes.specs.Calls.{visitsOf, strokeOf, strokesOf, strokesOfTable, answerOf, strokeAt, strokeCall, CornerExact, AnswerExact}
+use Rattle.routes.specs.Finding.{visitAnswer, Routable}
+use Rattle.strokes.specs.Placing.{StrokePlaced}
+use Rattle.routes.proofs.LeadLaws.{chart-lead}
+use Rattle.routes.proofs.RouteLaws.{visits-in}
 
 -- what the call promises of an answer
 abbrev pub Ended : List ℕ → ℕ → StrokeAnswer → Type 0

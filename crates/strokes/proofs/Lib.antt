@@ -1,9 +1,4 @@
-pub mod LeadLaws
-pub mod VisitLaws
-pub mod FindLaws
 pub mod CallLaws
 pub mod PlaceLaws
-pub mod RouteLaws
-pub mod RowLaws
 pub mod StepLaws
 pub mod StrokeLaws

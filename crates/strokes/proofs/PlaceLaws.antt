@@ -26,8 +26,8 @@ use Rattle.coordinates.proofs.SpaceLaws.{rows-room}
 use Rattle.corners.specs.declared.Stroke.{Stroke}
 use Rattle.corners.specs.Corners.{maxPlace, Stands}
 use Rattle.corners.specs.Strokes.{endOf, strokeTo}
-use Rattle.strokes.specs.declared.visit.Visit.{Visit}
-use Rattle.strokes.specs.Finding.{StrokePlaced}
+use Rattle.routes.specs.declared.Visit.{Visit}
+use Rattle.strokes.specs.Placing.{StrokePlaced}
 
 -- the point of a visit is one of few
 pub point-few : (ys : List ℕ) (ends : EdgeEnds) (order : List ℕ) → Lined ys ends order → (v : Visit) → v .point < length order → v .point < maxXs

@@ -22,13 +22,12 @@ use Rattle.ordering.specs.Calls.{drawnIn, Placing, pointCount}
 use Rattle.ordering.proofs.ChartLaws.{chart-of}
 use Rattle.ordering.proofs.DrawnLaws.{drawn-among}
 use Rattle.spacing.specs.Limits.{maxXs}
-use Rattle.strokes.specs.declared.visit.Visit.{Visit}
-use Rattle.strokes.specs.Routes.{visitsOf}
-use Rattle.strokes.specs.Calls.{strokeOf, strokesOf}
-use Rattle.strokes.proofs.VisitLaws.{elem-none}
-use Rattle.strokes.proofs.LeadLaws.{chart-lead}
-use Rattle.strokes.proofs.RouteLaws.{strokes-counted}
-use Rattle.strokes.proofs.RowLaws.{Neighbouring, strokes-neighbour}
+use Rattle.routes.specs.declared.Visit.{Visit}
+use Rattle.strokes.specs.Calls.{visitsOf, strokeOf, strokesOf}
+use Rattle.routes.proofs.VisitLaws.{elem-none}
+use Rattle.routes.proofs.LeadLaws.{chart-lead}
+use Rattle.routes.proofs.RouteLaws.{strokes-counted}
+use Rattle.routes.proofs.RowLaws.{Neighbouring, strokes-neighbour}
 
 -- ---- how many
 

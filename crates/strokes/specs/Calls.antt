@@ -2,21 +2,27 @@
 use mathlib.Core.List.{List, map}
 use mathlib.Core.Option.{Option, some, none}
 use Prim.Native.Nat.{ℕ}
-use lib.ListN.{getD, getElem?}
+use lib.ListN.{length, getD, getElem?}
 use Rattle.graph.specs.Rows.{at}
 use Rattle.outcome.specs.Refusal.{Outcome, done, refused, thenDo}
 use Rattle.table.specs.Table.{Contents, contentsOf, read}
+use Rattle.layering.specs.Calls.{turnedIn}
 use Rattle.points.specs.Points.{pointRows}
+use Rattle.merging.specs.Merged.{merged}
 use Rattle.ordering.specs.Calls.{drawnIn, Placing, chartOfTable}
 use Rattle.coordinates.specs.Calls.{ChartX, chartXs, unlessPast, rowsIn}
 use Rattle.corners.specs.declared.Corner.{Corner}
 use Rattle.corners.specs.declared.Stroke.{Stroke}
 use Rattle.corners.specs.Corners.{Stands}
 use Rattle.corners.specs.Strokes.{endOf, strokeTo}
-use Rattle.strokes.specs.declared.visit.Visit.{Visit}
+use Rattle.routes.specs.declared.Visit.{Visit}
 use Rattle.strokes.specs.declared.StrokeAnswer.{StrokeAnswer}
 use Rattle.strokes.specs.declared.StrokeAnswer.the-variants.{At, Nothing, Refused}
-use Rattle.strokes.specs.Routes.{noVisit, visitsOf}
+use Rattle.routes.specs.Routes.{noVisit, visitsFrom}
+
+-- the visits of a table with its rows: dummies are numbered on from the steps
+abbrev pub visitsOf : List ℕ → Contents → List Visit
+visitsOf rows t = visitsFrom rows (turnedIn t) (length rows) (merged (t .edges))
 
 -- a visit as a stroke, by the x and the row of each point
 abbrev pub strokeOf : List ℕ → List ℕ → Visit → Stroke

@@ -1,4 +1,3 @@
 -- The strokes of a chart: document 02, request 8.
-pub mod Routes
 pub mod Calls
-pub mod Finding
+pub mod Placing

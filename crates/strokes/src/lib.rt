@@ -3,17 +3,16 @@
 // The call takes any input, ends, and has no condition. Its contract puts its answer equal to what a definition of specs/Calls.antt makes
 // of the input, and says of a stroke that it ends exactly where its point belongs by the best x.
 mod place;
-mod visit;
 
 use crate::place::place_stroke;
-use crate::visit::VisitAnswer;
-use crate::visit::find_visit;
 use corners::Stroke;
 use merging::merge_edges;
 use ordering::chart::merge_ends;
 use ordering::chart_table;
 use outcome::Refusal;
 use outcome::Verdict;
+use routes::VisitAnswer;
+use routes::find_visit;
 use spacing::limits::MAX_XS;
 ghost use mathlib.Core.Path.{_≡_};
 ghost use Rattle.strokes.specs.Calls.{strokeCall, AnswerExact};

@@ -1,17 +1,17 @@
 // The stroke to a point of a chart.
-use crate::visit::Visit;
 use coordinates::space::space_lines;
 use corners::Stroke;
 use corners::stroke_to;
 use ordering::chart::EdgeEnds;
 use points::lay_rows;
+use routes::Visit;
 use spacing::limits::MAX_XS;
 ghost use Prim.Native.Nat.{_<_};
 ghost use lib.ListN.{length};
 ghost use Rattle.buffers.specs.Lists.{Below};
 ghost use Rattle.corners.specs.Corners.{maxPlace};
 ghost use Rattle.coordinates.specs.Costing.{Lined};
-ghost use Rattle.strokes.specs.Finding.{StrokePlaced};
+ghost use Rattle.strokes.specs.Placing.{StrokePlaced};
 
 // The stroke of a visit, by the best x and the rows of a chart's points.
 pub fn place_stroke(v: Visit, rows: &[usize], ends: EdgeEnds, order: &[u16]) -> Stroke

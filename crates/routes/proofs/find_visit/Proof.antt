@@ -5,10 +5,10 @@ use native.Mathlib.Omega.{arith}
 use lib.ListN.{length, take}
 use borrow.Author.Needs.{needs}
 use Rattle.spacing.specs.Limits.{maxXs}
-use Rattle.strokes.specs.Finding.{Routable}
-use Rattle.strokes.proofs.FindLaws.{Seeking, seeking-start, leads-down, dummies-few, found-here, found-later, found-nowhere}
-use Rattle.strokes.proofs.visit.find_visit.Statement.{statement}
-use Rattle.strokes.proofs.visit.find_visit.Tie as tie
+use Rattle.routes.specs.Finding.{Routable}
+use Rattle.routes.proofs.FindLaws.{Seeking, seeking-start, leads-down, dummies-few, found-here, found-later, found-nowhere}
+use Rattle.routes.proofs.find_visit.Statement.{statement}
+use Rattle.routes.proofs.find_visit.Tie as tie
 
 abbrev Inv-loop : tie.InvT-loop
 Inv-loop rows index turned list dummy₀ left₀ i₀ i-end dummy left i =

@@ -1,4 +1,4 @@
-// The point that the stroke at an index goes to.
+// The lines of a chart as a pen follows them: the point that the stroke at an index goes to. Of x and millimetres nothing is known here.
 use merging::MergedEdge;
 use merging::MergedEdges;
 use merging::direct_merged;
@@ -9,15 +9,16 @@ ghost use mathlib.Core.Option.{some};
 ghost use Prim.Native.Nat.{_+_, _≤_, _<_};
 ghost use lib.ListN.{length, take, getElem?};
 ghost use Rattle.spacing.specs.Limits.{maxXs};
-ghost use Rattle.strokes.specs.Routes.{lineVisits, visitsFrom};
-ghost use Rattle.strokes.specs.Finding.{visitAnswer, Routable};
+ghost use Rattle.routes.specs.Routes.{lineVisits, visitsFrom};
+ghost use Rattle.routes.specs.Finding.{visitAnswer, Routable};
 
-// Whether a line starts at a point, or goes on to it.
+// A stroke by the point that it goes to, and whether a line of the chart starts there.
 pub struct Visit {
     pub start: bool,
     pub point: usize,
 }
 
+// What is at an index, if there is a stroke.
 pub enum VisitAnswer {
     To(Visit),
     Nowhere,

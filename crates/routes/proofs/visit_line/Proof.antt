@@ -4,10 +4,10 @@ use mathlib.Core.Bool.{Bool}
 use native.Mathlib.Omega.{arith}
 use lib.ListN.{getElem?}
 use borrow.Author.Needs.{needs}
-use Rattle.strokes.specs.Routes.{lineVisits}
-use Rattle.strokes.proofs.VisitLaws.{line-start, line-end, line-down, line-up}
-use Rattle.strokes.proofs.visit.visit_line.Statement.{statement}
-use Rattle.strokes.proofs.visit.visit_line.Tie as tie
+use Rattle.routes.specs.Routes.{lineVisits}
+use Rattle.routes.proofs.VisitLaws.{line-start, line-end, line-down, line-up}
+use Rattle.routes.proofs.visit_line.Statement.{statement}
+use Rattle.routes.proofs.visit_line.Tie as tie
 
 cast-t7 : tie.Need-cast-t7
 cast-t7 c = search needs

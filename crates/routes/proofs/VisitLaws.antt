@@ -13,8 +13,8 @@ use lib.Seq.{getD-at}
 use Rattle.graph.specs.Search.{run}
 use Rattle.buffers.proofs.RunLaws.{run-length}
 use Rattle.merging.specs.declared.MergedEdge.{MergedEdge}
-use Rattle.strokes.specs.declared.visit.Visit.{Visit}
-use Rattle.strokes.specs.Routes.{lineTo, moveTo, travelled, lineVisits}
+use Rattle.routes.specs.declared.Visit.{Visit}
+use Rattle.routes.specs.Routes.{lineTo, moveTo, travelled, lineVisits}
 
 -- ---- the numbers of a line's dummies
 

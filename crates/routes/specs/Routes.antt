@@ -3,14 +3,12 @@
 use mathlib.Core.Bool.{Bool, true, false, cond}
 use mathlib.Core.List.{List, [], _∷_, _++_, map, reverse}
 use Prim.Native.Nat.{ℕ, _+_}
-use lib.ListN.{length, getD}
+use lib.ListN.{getD}
 use Rattle.graph.specs.Search.{run}
-use Rattle.table.specs.Table.{Contents}
-use Rattle.layering.specs.Calls.{turnedIn}
 use Rattle.merging.specs.declared.MergedEdge.{MergedEdge}
-use Rattle.merging.specs.Merged.{merged, drawnEdge}
+use Rattle.merging.specs.Merged.{drawnEdge}
 use Rattle.points.specs.Points.{between}
-use Rattle.strokes.specs.declared.visit.Visit.{Visit}
+use Rattle.routes.specs.declared.Visit.{Visit}
 
 -- a move to a point, and a line to it
 abbrev pub moveTo : ℕ → Visit
@@ -32,12 +30,8 @@ travelled turned dummies = cond turned (reverse dummies) dummies
 unfoldable pub lineVisits : Bool → MergedEdge → ℕ → ℕ → List Visit
 lineVisits turned e d k = moveTo (e .from) ∷ map lineTo (travelled turned (run d k) ++ e .to ∷ [])
 
--- those of all lines, one behind the other
+-- those of all lines, one behind the other, between steps in the rows ys
 unfoldable pub visitsFrom : List ℕ → List Bool → ℕ → List MergedEdge → List Visit
 visitsFrom ys turned d [] = []
 visitsFrom ys turned d (e ∷ edges) =
     lineVisits (getD turned (e .first) false) e d (between ys (drawnEdge turned e)) ++ visitsFrom ys turned (d + between ys (drawnEdge turned e)) edges
-
--- and of a table with its rows: dummies are numbered on from the steps
-abbrev pub visitsOf : List ℕ → Contents → List Visit
-visitsOf rows t = visitsFrom rows (turnedIn t) (length rows) (merged (t .edges))

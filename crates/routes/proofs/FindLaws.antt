@@ -20,12 +20,12 @@ use Rattle.merging.specs.Merged.{noMergedEdge, drawnEdge, drawnEdges}
 use Rattle.merging.proofs.SameLaws.{drawn-length, drawn-get}
 use Rattle.ordering.specs.Calls.{pointCount}
 use Rattle.spacing.specs.Limits.{maxXs}
-use Rattle.strokes.specs.declared.visit.Visit.{Visit}
-use Rattle.strokes.specs.declared.visit.VisitAnswer.the-variants.{To, Nowhere}
-use Rattle.strokes.specs.Routes.{lineVisits, visitsFrom}
-use Rattle.strokes.specs.Finding.{visitAnswer, Routable}
-use Rattle.strokes.proofs.LeadLaws.{chart-lead}
-use Rattle.strokes.proofs.VisitLaws.{line-count}
+use Rattle.routes.specs.declared.Visit.{Visit}
+use Rattle.routes.specs.declared.VisitAnswer.the-variants.{To, Nowhere}
+use Rattle.routes.specs.Routes.{lineVisits, visitsFrom}
+use Rattle.routes.specs.Finding.{visitAnswer, Routable}
+use Rattle.routes.proofs.LeadLaws.{chart-lead}
+use Rattle.routes.proofs.VisitLaws.{line-count}
 
 -- ---- an index in two lists, one behind the other
 

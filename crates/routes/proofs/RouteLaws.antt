@@ -22,10 +22,10 @@ use Rattle.points.proofs.NeighbourLaws.{Leads, AllLead, leads-tail}
 use Rattle.merging.specs.declared.MergedEdge.{MergedEdge}
 use Rattle.merging.specs.Merged.{asEdge, drawnEdge, drawnEdges}
 use Rattle.merging.proofs.SameLaws.{drawn-length}
-use Rattle.strokes.specs.declared.visit.Visit.{Visit}
-use Rattle.strokes.specs.Routes.{lineVisits, visitsFrom}
-use Rattle.strokes.proofs.VisitLaws.{run-at, line-count, elem-none, OnLine, at-start, at-end, at-dummy, on-line}
-use Rattle.strokes.proofs.FindLaws.{elem-front, elem-behind}
+use Rattle.routes.specs.declared.Visit.{Visit}
+use Rattle.routes.specs.Routes.{lineVisits, visitsFrom}
+use Rattle.routes.proofs.VisitLaws.{run-at, line-count, elem-none, OnLine, at-start, at-end, at-dummy, on-line}
+use Rattle.routes.proofs.FindLaws.{elem-front, elem-behind}
 
 -- ---- how many
 

@@ -1,0 +1,5 @@
+pub mod LeadLaws
+pub mod VisitLaws
+pub mod FindLaws
+pub mod RouteLaws
+pub mod RowLaws
