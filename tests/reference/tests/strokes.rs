@@ -2,17 +2,19 @@
 
 use reference::bounds::MAX_ROW;
 use reference::calls::{self, hand_out_stroke, StrokeAnswer};
-use reference::chart::{draw_chart, Chart};
+use reference::chart::draw_chart;
 use reference::drawing::check;
 use reference::points::MAX_POINTS;
 use reference::random::Random;
 use reference::refusal::Refusal;
 use reference::strokes::{corner, float_of_quarters, lines_of, list_strokes, Corner, Stroke};
-use reference::table::{read_table, Edge, Kind, TableEdge};
-use reference::writer::{write_table, Draft};
+use reference::table::read_table;
 use reference::xs::{find_xs, MOST_POINTS};
 
+mod small;
 mod stored;
+
+use small::draw;
 
 #[test]
 fn floats_of_quarters() {
@@ -34,19 +36,12 @@ fn no_corner_is_rounded() {
     }
 }
 
-/// From, to, gap, and whether it is soft.
+/// From, to, gap, and whether it is soft; all weights are 1.
 type Row = (usize, usize, u32, bool);
 
 fn table(steps: usize, rows: &[Row]) -> Vec<u8> {
-    let edge = |&(from, to, gap, soft): &Row| TableEdge { edge: Edge { from, to, gap, weight: 1 }, soft };
-    let edges: Vec<TableEdge> = rows.iter().map(edge).collect();
-    let firmness = edges.iter().map(|edge| u32::from(edge.soft)).collect();
-    let steps = vec![(Kind::Check, vec![b's']); steps];
-    write_table(&Draft { steps, edges: edges.iter().map(|edge| edge.edge).collect(), firmness: Some(firmness) })
-}
-
-fn draw(bytes: &[u8]) -> Chart {
-    draw_chart(&read_table(bytes).expect("a table")).unwrap_or_else(|_| panic!("a chart"))
+    let weighed: Vec<small::Row> = rows.iter().map(|&(from, to, gap, soft)| (from, to, gap, 1, soft)).collect();
+    small::table(steps, &weighed)
 }
 
 /// The case of a stroke, and its millimetres as a listing would have them.

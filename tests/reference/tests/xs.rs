@@ -1,17 +1,17 @@
 //! The x of points: against every choice of x, by forces, by hand, and on the stored tables.
 
 use reference::calls;
-use reference::chart::{draw_chart, Chart};
 use reference::forces::{check, neighbours, sum, Forces, Piece};
 use reference::order::Order;
 use reference::points::MAX_POINTS;
 use reference::random::Random;
 use reference::refusal::Refusal;
-use reference::table::{read_table, Edge, Kind, TableEdge};
-use reference::writer::{write_table, Draft};
 use reference::xs::{find_xs, judge_xs, lowest_xs, pieces_of, MOST_POINTS};
 
+mod small;
 mod stored;
+
+use small::{draw, table, Row};
 
 /// Over all choices up to the bound that keep neighbours apart: the least sum, and at each point the least x among choices of
 /// that sum.
@@ -110,21 +110,6 @@ fn any_x_are_judged() {
         }
     }
     assert!(dearer > 5000 && higher > 3000, "{dearer} x with a larger sum, {higher} best but not the lowest");
-}
-
-/// From, to, gap, weight, and whether it is soft.
-type Row = (usize, usize, u32, u32, bool);
-
-fn table(steps: usize, rows: &[Row]) -> Vec<u8> {
-    let edge = |&(from, to, gap, weight, soft): &Row| TableEdge { edge: Edge { from, to, gap, weight }, soft };
-    let edges: Vec<TableEdge> = rows.iter().map(edge).collect();
-    let firmness = edges.iter().map(|edge| u32::from(edge.soft)).collect();
-    let steps = vec![(Kind::Check, vec![b's']); steps];
-    write_table(&Draft { steps, edges: edges.iter().map(|edge| edge.edge).collect(), firmness: Some(firmness) })
-}
-
-fn draw(bytes: &[u8]) -> Chart {
-    draw_chart(&read_table(bytes).expect("a table")).unwrap_or_else(|_| panic!("a chart"))
 }
 
 /// A line of two edges past two rows, one from row to row, and a turned one past one beside a line of weight 0.
