@@ -1,11 +1,11 @@
 -- Products of a whole number and a fraction of few binary digits are exact.
-use mathlib.Core.Path.{_≡_, refl, sym, ap, _∙_, subst}
+use mathlib.Core.Path.{_≡_, refl, sym, ap, _∙_}
 use mathlib.Core.Bool.{Bool, true, false, cond, true≢false}
-use Prim.Native.Nat.{ℕ, suc, _+_, _-_, _*_, _/_, _^_, _≤_, _<_}
+use Prim.Native.Nat.{ℕ, _+_, _-_, _*_, _/_, _^_, _≤_, _<_}
 use native.Mathlib.Nat.{mul-pos, mul-mul-mul-comm, mul-comm, one-mul, mul-assoc, mul-right-comm, eq-of-mul-eq-mul-right, lt-of-lt-of-le, zero-lt-suc}
 use native.Mathlib.Omega.{arith}
 use lib.Pow.{pow-pos, pow-add, pow-mono, shl-lt}
-use lib.Ieee.{Float, nan, inf, fin, Format, binary32, up, down, prec, hid, top, size, mul, round, ofInt, inFloat, fits, toBits, ofBits}
+use lib.Ieee.{Float, nan, inf, fin, binary32, up, down, prec, hid, top, size, mul, round, ofInt, inFloat, fits, toBits, ofBits}
 use lib.Dec.{T, le→leb}
 use lib.IntN.{ℤ, pos}
 use lib.Ieee.Exact.{HasValue, round-exact}

@@ -1,11 +1,10 @@
 -- The edges of a chart lead down, one by one.
-use mathlib.Core.Path.{_≡_, sym, ap}
 use mathlib.Core.List.{List}
 use Prim.Native.Nat.{ℕ, _<_}
 use native.Mathlib.Omega.{arith}
 use lib.ListN.{length, getD, length-map, List·getD-map}
 use Rattle.graph.specs.declared.Edge.{Edge}
-use Rattle.graph.specs.Rows.{at, noEdge}
+use Rattle.graph.specs.Rows.{noEdge}
 use Rattle.points.specs.Laying.{Chart}
 use Rattle.points.proofs.PointLaws.{tails, heads}
 use Rattle.points.proofs.NeighbourLaws.{Leads, AllLead}

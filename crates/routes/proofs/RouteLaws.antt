@@ -1,30 +1,24 @@
 -- Where the strokes of a chart go: to its points, from row to neighbouring row; and how many there are.
-use mathlib.Core.Path.{_≡_, refl, sym, ap, subst, _∙_}
-use mathlib.Core.Bool.{Bool, true, false, true≢false}
-use mathlib.Core.Logic.{_⊎_, inl, inr}
-use mathlib.Core.List.{List, [], _∷_, _++_}
+use mathlib.Core.Path.{_≡_, refl, sym, ap, _∙_}
+use mathlib.Core.Bool.{Bool, true, false}
+use mathlib.Core.List.{List, [], _∷_}
 use mathlib.Core.Option.{some}
-use Prim.Native.Nat.{ℕ, zero, suc, _+_, _-_, _*_, _≤_, _<_}
+use Prim.Native.Nat.{ℕ, _+_, _-_, _*_, _≤_, _<_}
 use native.Mathlib.Nat.{zero-lt-suc}
 use native.Mathlib.Decide.{decLt}
 use native.Mathlib.Omega.{arith}
-use lib.ListN.{length, getD, drop, getElem?, length-append, List·getD-append}
-use lib.Seq.{getD-drop, drop-drop, drop-at, drop-append-seam}
-use Rattle.graph.specs.declared.Edge.{Edge}
+use lib.ListN.{length, getD, getElem?, length-append}
 use Rattle.graph.specs.Directed.{directed}
-use Rattle.graph.specs.Rows.{at}
-use Rattle.graph.specs.Search.{run}
-use Rattle.buffers.proofs.RunLaws.{run-length}
-use Rattle.points.specs.Points.{between, pointRows, segmentsFrom, segments}
-use Rattle.points.proofs.EdgeLaws.{betweenAll, dummyRows}
-use Rattle.points.proofs.PointLaws.{rows-are, points-length, segments-length}
+use Rattle.points.specs.Points.{between, segments}
+use Rattle.points.proofs.EdgeLaws.{betweenAll}
+use Rattle.points.proofs.PointLaws.{segments-length}
 use Rattle.points.proofs.NeighbourLaws.{Leads, AllLead, leads-tail}
 use Rattle.merging.specs.declared.MergedEdge.{MergedEdge}
 use Rattle.merging.specs.Merged.{asEdge, drawnEdge, drawnEdges}
 use Rattle.merging.proofs.SameLaws.{drawn-length}
 use Rattle.routes.specs.declared.Visit.{Visit}
 use Rattle.routes.specs.Routes.{lineVisits, visitsFrom}
-use Rattle.routes.proofs.VisitLaws.{run-at, line-count, elem-none, OnLine, at-start, at-end, at-dummy, on-line}
+use Rattle.routes.proofs.VisitLaws.{line-count, OnLine, at-start, at-end, at-dummy, on-line}
 use Rattle.routes.proofs.FindLaws.{elem-front, elem-behind}
 
 -- ---- how many

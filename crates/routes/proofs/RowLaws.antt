@@ -1,14 +1,14 @@
 -- Along a line each stroke goes to the next row: downwards, or upwards if it is turned.
-use mathlib.Core.Path.{_≡_, refl, sym, ap, subst, _∙_}
+use mathlib.Core.Path.{_≡_, sym, ap, _∙_}
 use mathlib.Core.Bool.{Bool, true, false, true≢false}
 use mathlib.Core.Logic.{_⊎_, inl, inr}
 use mathlib.Core.List.{List, [], _∷_, _++_}
 use mathlib.Core.Option.{some}
-use Prim.Native.Nat.{ℕ, zero, suc, _+_, _-_, _≤_, _<_}
+use Prim.Native.Nat.{ℕ, suc, _+_, _-_, _<_}
 use native.Mathlib.Nat.{zero-lt-suc}
 use native.Mathlib.Decide.{decLt}
 use native.Mathlib.Omega.{arith}
-use lib.ListN.{length, getD, drop, getElem?, length-append, List·getD-append}
+use lib.ListN.{length, getD, drop, getElem?, List·getD-append}
 use lib.Seq.{getD-drop, drop-drop, drop-at, drop-append-seam}
 use Rattle.graph.specs.Directed.{directed}
 use Rattle.graph.specs.Rows.{at}

@@ -3,20 +3,18 @@ use mathlib.Core.Path.{_≡_, refl, sym, ap, subst, _∙_}
 use mathlib.Core.Bool.{Bool, false}
 use mathlib.Core.List.{List, [], _∷_, map}
 use mathlib.Core.Option.{Option, some, none}
-use Prim.Native.Nat.{ℕ, zero, suc, _+_, _-_, _≤_, _<_}
+use Prim.Native.Nat.{ℕ, zero, suc, _-_, _≤_, _<_}
 use native.Mathlib.Omega.{arith}
 use borrow.Author.Tests.{le-leb, lt-leb}
-use lib.Dec.{leb}
 use lib.ListN.{length, getD, take, getElem?}
 use lib.Seq.{getD-take, length-take-le}
 use Rattle.graph.specs.declared.Edge.{Edge}
-use Rattle.graph.specs.declared.TableEdge.{TableEdge}
 use Rattle.graph.specs.Rows.{at}
 use Rattle.graph.proofs.DirectedLaws.{padded-get}
 use Rattle.outcome.specs.declared.Refusal.{Refusal}
 use Rattle.outcome.specs.declared.Refusal.the-variants.{LargeChart}
 use Rattle.outcome.specs.declared.Verdict as verdict
-use Rattle.outcome.specs.Refusal.{Outcome, done, refused, thenDo}
+use Rattle.outcome.specs.Refusal.{done, refused, thenDo}
 use Rattle.table.specs.declared.types.Table.{Table}
 use Rattle.table.specs.Limits.{maxEdges}
 use Rattle.table.specs.Table.{Contents}
@@ -25,28 +23,25 @@ use Rattle.buffers.specs.Padded.{padded}
 use Rattle.rows.specs.Placed.{outcomeBy}
 use Rattle.layering.specs.Calls.{turnedIn}
 use Rattle.points.specs.Points.{pointRows}
-use Rattle.points.specs.Laying.{Chart}
-use Rattle.points.proofs.PointLaws.{tails, heads, points-length}
+use Rattle.points.proofs.PointLaws.{points-length}
 use Rattle.merging.specs.declared.MergedEdge.{MergedEdge}
 use Rattle.merging.specs.declared.MergedEdges.{MergedEdges}
 use Rattle.merging.specs.Merged.{merged, drawnEdges}
 use Rattle.merging.specs.Merging.{mergedArray}
-use Rattle.fewest.proofs.CompleteLaws.{drawing-count}
 use Rattle.ordering.specs.declared.chart.EdgeEnds.{EdgeEnds}
 use Rattle.ordering.specs.declared.types.ChartFound.{ChartFound}
-use Rattle.ordering.specs.Calls.{drawnIn, Placing, pointCount, chartOfTable, chartOut}
+use Rattle.ordering.specs.Calls.{drawnIn, pointCount, chartOfTable}
 use Rattle.ordering.specs.Charting.{Split, Storable, chartedBy, TableFound}
 use Rattle.ordering.proofs.DrawnLaws.{directable, list-front}
-use Rattle.ordering.proofs.OpenedLaws.{Opened, few-own, rows-of, opened-mergeable, opened-drawn, opened-chart}
+use Rattle.ordering.proofs.OpenedLaws.{Opened, few-own, rows-of, opened-drawn, opened-chart}
 use Rattle.spacing.specs.Limits.{maxXs}
-use Rattle.coordinates.specs.Calls.{ChartX, chartXs, unlessPast, spacing}
+use Rattle.coordinates.specs.Calls.{chartXs, unlessPast}
 use Rattle.coordinates.proofs.CallLaws.{out-refused, lined}
 use Rattle.coordinates.specs.Costing.{Lined}
 use Rattle.corners.specs.declared.Stroke.{Stroke}
 use Rattle.corners.specs.Corners.{maxPlace, Stands}
 use Rattle.corners.specs.Strokes.{endOf}
 use Rattle.routes.specs.declared.Visit.{Visit}
-use Rattle.routes.specs.declared.VisitAnswer.{VisitAnswer}
 use Rattle.routes.specs.declared.VisitAnswer.the-variants.{To, Nowhere}
 use Rattle.strokes.specs.declared.StrokeAnswer.{StrokeAnswer}
 use Rattle.strokes.specs.declared.StrokeAnswer.the-variants.{At, Nothing, Refused}

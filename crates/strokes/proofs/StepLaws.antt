@@ -1,23 +1,18 @@
 -- Strokes are refused just as x are, but for a buffer; so the step that comes with a loop is one of the steps.
-use mathlib.Core.Path.{_≡_, refl, sym, ap, _∙_}
-use mathlib.Core.Bool.{Bool, true, false}
+use mathlib.Core.Path.{_≡_, refl, ap, _∙_}
 use mathlib.Core.List.{List}
 use mathlib.Core.Option.{Option, some, none}
 use mathlib.Core.Logic.{_↔_}
 use Prim.Native.Nat.{ℕ}
 use native.Mathlib.Omega.{arith}
-use lib.Dec.{leb}
 use lib.ListN.{getElem?}
 use Rattle.outcome.specs.declared.Refusal.{Refusal}
-use Rattle.outcome.specs.declared.Refusal.the-variants.{LargeChart}
-use Rattle.outcome.specs.Refusal.{Outcome, done, refused, thenDo, demand}
+use Rattle.outcome.specs.Refusal.{Outcome, done, refused, thenDo}
 use Rattle.rows.proofs.StepLaws.{StepLow, never, same}
-use Rattle.ordering.specs.Calls.{Placing, drawnIn, pointCount, chartOfTable}
-use Rattle.spacing.specs.Limits.{maxXs}
+use Rattle.ordering.specs.Calls.{Placing, chartOfTable}
 use Rattle.coordinates.specs.Calls.{Spacing, unlessPast, xsOfTable}
 use Rattle.coordinates.proofs.StepLaws.{xs-of-step}
 use Rattle.corners.specs.declared.Stroke.{Stroke}
-use Rattle.strokes.specs.declared.StrokeAnswer.{StrokeAnswer}
 use Rattle.strokes.specs.declared.StrokeAnswer.the-variants.{Refused}
 use Rattle.strokes.specs.Calls.{strokesOf, strokesOfTable, answerOf, strokeAt, strokeCall}
 

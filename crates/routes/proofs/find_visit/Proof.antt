@@ -1,8 +1,7 @@
 -- What is sought is at `left` of the strokes of the lines from i on.
-use mathlib.Core.Path.{_≡_, sym, ap, _∙_}
-use Prim.Native.Nat.{ℕ, _+_, _-_, _≤_, _<_}
+use Prim.Native.Nat.{_+_, _-_, _≤_, _<_}
 use native.Mathlib.Omega.{arith}
-use lib.ListN.{length, take}
+use lib.ListN.{take}
 use borrow.Author.Needs.{needs}
 use Rattle.spacing.specs.Limits.{maxXs}
 use Rattle.routes.specs.Finding.{Routable}
