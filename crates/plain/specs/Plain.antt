@@ -59,7 +59,7 @@ StepFits (Refused r) = stepOf r < second
 abbrev pub cornerIn : PlainStroke → Corner
 cornerIn p = record { x = p .x; y = p .y }
 
--- Where a stroke is read out of the word, so that the case is not 0, the two floats are exactly the corner of the stroke at the index, for the table
--- that bytes write down.
+-- Where a stroke is read out of the word, so that the case is not 0, the two floats are exactly the corner of the stroke at the index, for
+-- the table that bytes write down.
 abbrev pub PlainExact : List ℕ → ℕ → PlainStroke → Type 0
 PlainExact bytes i p = (k : ℕ) → strokeRead (p .answer) ≡ 0 ∷ suc k ∷ [] → CornerExact (rowsIn bytes) (contentsOf (read bytes)) i (cornerIn p)

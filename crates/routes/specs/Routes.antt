@@ -25,8 +25,8 @@ noVisit = lineTo 0
 abbrev pub travelled : Bool → List ℕ → List ℕ
 travelled turned dummies = cond turned (reverse dummies) dummies
 
--- Of a line, here a merged edge, with k dummies, which are numbered from d on: a move to the step that it starts at by the table, then a line to
--- each dummy and to the step that it ends at.
+-- Of a line, here a merged edge, with k dummies, which are numbered from d on: a move to the step that it starts at by the table, then a
+-- line to each dummy and to the step that it ends at.
 unfoldable pub lineVisits : Bool → MergedEdge → ℕ → ℕ → List Visit
 lineVisits turned e d k = moveTo (e .from) ∷ map lineTo (travelled turned (run d k) ++ e .to ∷ [])
 
