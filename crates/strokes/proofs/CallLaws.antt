@@ -203,7 +203,8 @@ module _ (bytes : List ℕ) (table : Table) (flags : List Bool) (f : ChartFound)
                   stands =
                       subst (λ (w : Visit). Stands (endOf s) (at (chartXs rows drawn) (w .point)) (at (pointRows rows drawn) (w .point)))
                       (sym (elem-get (visitsOf rows contents) i visit-is)) (placed .stands drawn split-drawn);
-                  best = placed .best drawn split-drawn;
+                  best-x = placed .best drawn split-drawn;
+                  best-rows = o .best;
                 }
 
             stroke-exact : AnswerExact bytes i (At s)

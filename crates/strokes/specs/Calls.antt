@@ -3,10 +3,10 @@ use mathlib.Core.List.{List, map}
 use mathlib.Core.Option.{Option, some, none}
 use Prim.Native.Nat.{ℕ}
 use lib.ListN.{length, getD, getElem?}
-use Rattle.graph.specs.Rows.{at}
+use Rattle.graph.specs.Rows.{at, Best}
 use Rattle.outcome.specs.Refusal.{Outcome, done, refused, thenDo}
 use Rattle.table.specs.Table.{Contents, contentsOf, read}
-use Rattle.layering.specs.Calls.{turnedIn}
+use Rattle.layering.specs.Calls.{orientedIn, turnedIn}
 use Rattle.points.specs.Points.{pointRows}
 use Rattle.merging.specs.Merged.{merged}
 use Rattle.ordering.specs.Calls.{drawnIn, Placing, chartOfTable}
@@ -54,10 +54,11 @@ strokeCall bytes i = strokeAt (strokesOfTable bytes) i
 abbrev pub pointAt : List ℕ → Contents → ℕ → ℕ
 pointAt rows t i = getD (visitsOf rows t) i noVisit .point
 
--- A corner is exactly where the stroke at an index is to end: where its point belongs by its x and its row, and the x are the best.
+-- A corner is exactly where the stroke at an index is to end: where its point belongs by its x and its row, and both are the best.
 pub record CornerExact (rows : List ℕ) (t : Contents) (i : ℕ) (c : Corner) : Type 0 where
   pub stands : Stands c (at (chartXs rows (drawnIn t)) (pointAt rows t i)) (at (pointRows rows (drawnIn t)) (pointAt rows t i))
-  pub best : ChartX rows (drawnIn t) (chartXs rows (drawnIn t))
+  pub best-x : ChartX rows (drawnIn t) (chartXs rows (drawnIn t))
+  pub best-rows : Best (length (t .steps)) (orientedIn t) rows
 
 -- of an answer, for the table that bytes write down
 abbrev pub AnswerExact : List ℕ → ℕ → StrokeAnswer → Type 0

@@ -1,7 +1,7 @@
 // The strokes of a chart, one at an index: what a pen does that draws its lines.
 //
 // The call takes any input, ends, and has no condition. Its contract puts its answer equal to what a definition of specs/Calls.antt makes
-// of the input, and says of a stroke that it ends exactly where its point belongs by the best x.
+// of the input, and says of a stroke that it ends exactly where its point belongs by the best x and the best rows.
 mod place;
 
 use crate::place::place_stroke;
