@@ -26,7 +26,7 @@ row-below n row none i h = go (ltb (at row i) n) refl
     go true e = omega (arith, ltb-true (at row i) n e)
     go false e = absurd (omega (arith, none (at row i) (ltb-false (at row i) n e), at-occurs row i h))
 
-occurs-append : (p : ℕ) (l m : List ℕ) → occurs p (l ++ m) ≡ occurs p l + occurs p m
+pub occurs-append : (p : ℕ) (l m : List ℕ) → occurs p (l ++ m) ≡ occurs p l + occurs p m
 unfolding occurs
 occurs-append p [] m = omega arith
 occurs-append p (q ∷ l) m = omega (arith, occurs-append p l m)

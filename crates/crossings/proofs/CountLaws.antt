@@ -33,7 +33,8 @@ unfolding howMany
 count-all [] = refl
 count-all (s ∷ l) = omega (arith, count-all l)
 
-inRow-most : (r : ℕ) (l : List PlacedSegment) → length (inRow r l) ≤ length l
+-- no more of some segments are in a row than there are
+pub inRow-most : (r : ℕ) (l : List PlacedSegment) → length (inRow r l) ≤ length l
 unfolding inRow
 inRow-most r [] = omega arith
 inRow-most r (s ∷ l) = go (eqb (s .row) r) (inRow-most r l)

@@ -1,9 +1,8 @@
 -- Segments as flat lists place them: how many, which, and that they are those of the order whose positions the lists hold.
 use mathlib.Core.Path.{_≡_, refl, sym, ap, _∙_, subst}
 use mathlib.Core.List.{List, [], _∷_, map}
-use Prim.Native.Nat.{ℕ, zero, suc, _+_, _<_}
+use Prim.Native.Nat.{ℕ, zero, suc, _<_}
 use native.Mathlib.Nat.{not-suc-le-zero, le-of-suc-le-suc, zero-add}
-use native.Mathlib.Omega.{arith}
 use lib.ListN.{length, getD, length-map}
 use lib.Seq.{ext-getD}
 use Rattle.graph.specs.Rows.{at}
@@ -13,15 +12,8 @@ use Rattle.points.specs.Laying.{uppers, lowers}
 use Rattle.points.specs.Positions.{place}
 use Rattle.crossings.specs.Crossings.{PlacedSegment, placed, crossingPairs, crossings}
 use Rattle.buffers.specs.Lists.{Below}
-use Rattle.buffers.proofs.RunLaws.{run-length}
+use Rattle.buffers.proofs.RunLaws.{run-length, run-at}
 use Rattle.crossings.specs.Placing.{placedAt, placedBy}
-
--- k numbers from a on
-run-at : (a k i d : ℕ) → i < k → getD (run a k) i d ≡ a + i
-unfolding run
-run-at a zero i d h = absurd (not-suc-le-zero h)
-run-at a (suc k) zero d h = omega arith
-run-at a (suc k) (suc i) d h = omega (arith, run-at (suc a) k i d (le-of-suc-le-suc h))
 
 map-at : {A B : Type 0} (f : A → B) (l : List A) (i : ℕ) (d : B) (e : A) → i < length l → getD (map f l) i d ≡ f (getD l i e)
 map-at f [] i d e h = absurd (not-suc-le-zero h)

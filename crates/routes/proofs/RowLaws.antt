@@ -13,7 +13,7 @@ use lib.Seq.{getD-drop, drop-drop, drop-at, drop-append-seam}
 use Rattle.graph.specs.Directed.{directed}
 use Rattle.graph.specs.Rows.{at}
 use Rattle.graph.specs.Search.{run}
-use Rattle.buffers.proofs.RunLaws.{run-length}
+use Rattle.buffers.proofs.RunLaws.{run-length, run-at}
 use Rattle.points.specs.Points.{between, pointRows}
 use Rattle.points.proofs.EdgeLaws.{dummyRows}
 use Rattle.points.proofs.PointLaws.{rows-are}
@@ -22,7 +22,7 @@ use Rattle.merging.specs.declared.MergedEdge.{MergedEdge}
 use Rattle.merging.specs.Merged.{asEdge, drawnEdge, drawnEdges}
 use Rattle.routes.specs.declared.Visit.{Visit}
 use Rattle.routes.specs.Routes.{lineVisits, visitsFrom}
-use Rattle.routes.proofs.VisitLaws.{run-at, OnLine, at-start, at-end, at-dummy, on-line}
+use Rattle.routes.proofs.VisitLaws.{OnLine, at-start, at-end, at-dummy, on-line}
 use Rattle.routes.proofs.FindLaws.{elem-front, elem-behind}
 
 -- a row is i rows below row r, or i rows above it
@@ -45,7 +45,7 @@ module _ (ys rows : List ℕ) (nodes : (p : ℕ) → p < length ys → at rows p
   dummy-row : (d k r : ℕ) (rest : List ℕ) → drop d rows ≡ run (suc r) k ++ rest → (j : ℕ) → j < k → at rows (d + j) ≡ suc r + j
   dummy-row d k r rest e j h =
       sym (getD-drop d rows j 0) ∙ ap (λ (l : List ℕ). at l j) e ∙ List·getD-append (run (suc r) k) rest 0 j (omega (arith, run-length (suc r) k))
-      ∙ run-at (suc r) k j h
+      ∙ run-at (suc r) k j 0 h
 
   -- the row of a stroke's point, as its place along the line says
   module _ (e : MergedEdge) (d i : ℕ) (v : Visit) (rest : List ℕ) where

@@ -1,35 +1,22 @@
 -- What stands at an index of the strokes of a line.
-use mathlib.Core.Path.{_≡_, refl, sym, ap, _∙_}
+use mathlib.Core.Path.{_≡_, refl, ap, _∙_}
 use mathlib.Core.Bool.{Bool, true, false, cond}
 use mathlib.Core.Logic.{_≢_}
 use mathlib.Core.List.{List, [], _∷_, _++_, map, reverse, reverse-append}
 use mathlib.Core.Option.{Option, some, none}
 use Prim.Native.Nat.{ℕ, zero, suc, _+_, _-_, _≤_, _<_}
-use native.Mathlib.Nat.{not-suc-le-zero, le-of-suc-le-suc, add-zero}
+use native.Mathlib.Nat.{not-suc-le-zero, le-of-suc-le-suc}
 use native.Mathlib.Decide.{ℕ-discrete, decLt}
 use native.Mathlib.Omega.{arith}
 use lib.ListN.{length, getD, getElem?, length-append, length-map, length-reverse, List·getD-append}
 use lib.Seq.{getD-at}
 use Rattle.graph.specs.Search.{run}
-use Rattle.buffers.proofs.RunLaws.{run-length}
+use Rattle.buffers.proofs.RunLaws.{run-length, run-at, run-last}
 use Rattle.merging.specs.declared.MergedEdge.{MergedEdge}
 use Rattle.routes.specs.declared.Visit.{Visit}
 use Rattle.routes.specs.Routes.{lineTo, moveTo, travelled, lineVisits}
 
 -- ---- the numbers of a line's dummies
-
-pub run-at : (d k j : ℕ) → j < k → getD (run d k) j 0 ≡ d + j
-unfolding run
-run-at d zero j h = absurd (not-suc-le-zero h)
-run-at d (suc k) zero h = omega arith
-run-at d (suc k) (suc j) h = omega (arith, run-at (suc d) k j (le-of-suc-le-suc h))
-
-run-last : (d k : ℕ) → run d (suc k) ≡ run d k ++ (d + k) ∷ []
-unfolding run
-run-last d zero = ap (λ (z : ℕ). z ∷ []) (sym (add-zero d))
-run-last d (suc k) =
-    let e : suc d + k ≡ d + suc k = omega arith in
-    ap (λ (l : List ℕ). d ∷ l) (run-last (suc d) k ∙ ap (λ (z : ℕ). run (suc d) k ++ z ∷ []) e)
 
 -- from the last to the first
 run-back : (d k : ℕ) → reverse (run d (suc k)) ≡ (d + k) ∷ reverse (run d k)
@@ -91,7 +78,7 @@ module _ (e : MergedEdge) (d k : ℕ) where
       let j : at - 1 < k = omega arith in
       let same : d + (at - 1) ≡ d + at - 1 = omega arith in
       line-behind false at (at - 1) (omega arith) (omega arith)
-      ∙ ap (λ (p : ℕ). some (lineTo p)) (List·getD-append (run d k) (e .to ∷ []) 0 (at - 1) (omega (arith, run-length d k)) ∙ run-at d k (at - 1) j ∙ same)
+      ∙ ap (λ (p : ℕ). some (lineTo p)) (List·getD-append (run d k) (e .to ∷ []) 0 (at - 1) (omega (arith, run-length d k)) ∙ run-at d k (at - 1) 0 j ∙ same)
 
   pub line-up : (at : ℕ) → 0 < at → at < k + 1 → getElem? (lineVisits true e d k) at ≡ some (lineTo (d + k - at))
   line-up at h l =
