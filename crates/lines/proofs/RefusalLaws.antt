@@ -4,7 +4,7 @@ use Prim.Native.Nat.{ℕ, _≤_, _<_}
 use native.Mathlib.Omega.{arith}
 use lib.ListN.{length, length-append}
 use Rattle.outcome.specs.declared.Refusal.{Refusal}
-use Rattle.outcome.specs.declared.Refusal.the-variants.{Cut, Overlong, BadEdition, ManySteps, BadKind, OutOfRange, BadNameByte, ManyEdges, BadEnd, Spare, Loop, ManyPoints, ShortBuffer, NoStep, BadFirmness, LargeChart}
+use Rattle.outcome.specs.declared.Refusal.the-variants.{Cut, Overlong, BadEdition, ManySteps, BadKind, OutOfRange, BadNameByte, ManyEdges, BadEnd, Spare, Loop, ManyPoints, ShortBuffer, NoStep, BadFirmness, LargeChart, BadRow, ManyTries}
 use Rattle.outcome.specs.Refusal.{stepOf}
 use Rattle.labels.specs.Text.{text, decimal, blanked}
 use Rattle.labels.proofs.DecimalLaws.{tens, decimal-short}
@@ -33,3 +33,5 @@ refusal-short ShortBuffer h = one-short 13 (omega arith)
 refusal-short NoStep h = one-short 14 (omega arith)
 refusal-short BadFirmness h = one-short 15 (omega arith)
 refusal-short LargeChart h = one-short 16 (omega arith)
+refusal-short BadRow h = one-short 17 (omega arith)
+refusal-short ManyTries h = one-short 18 (omega arith)

@@ -5,7 +5,7 @@ use Prim.Native.Nat.{ℕ, _≤_}
 use native.Mathlib.Omega.{arith}
 use lib.ListN.{getD}
 use Rattle.outcome.specs.declared.Refusal.{Refusal}
-use Rattle.outcome.specs.declared.Refusal.the-variants.{Cut, Overlong, BadEdition, ManySteps, BadKind, OutOfRange, BadNameByte, ManyEdges, BadEnd, Spare, Loop, ManyPoints, ShortBuffer, NoStep, BadFirmness, LargeChart}
+use Rattle.outcome.specs.declared.Refusal.the-variants.{Cut, Overlong, BadEdition, ManySteps, BadKind, OutOfRange, BadNameByte, ManyEdges, BadEnd, Spare, Loop, ManyPoints, ShortBuffer, NoStep, BadFirmness, LargeChart, BadRow, ManyTries}
 use Rattle.outcome.specs.declared.Verdict.{Verdict}
 use Rattle.outcome.specs.declared.Verdict.the-variants.{Accepted, Refused}
 use Rattle.outcome.specs.Refusal.{Outcome, done, refused, numbersOf, numberOf, stepOf, told, bare, verdictNumbers, refusalIn}
@@ -16,7 +16,7 @@ use Rattle.outcome.specs.Refusal.{Outcome, done, refused, numbersOf, num
 abbrev named : ℕ → List Refusal
 named s =
     Cut ∷ Cut ∷ Overlong ∷ BadEdition ∷ ManySteps ∷ BadKind ∷ OutOfRange ∷ BadNameByte ∷ ManyEdges ∷ BadEnd ∷ Spare ∷ Loop s ∷ ManyPoints
-    ∷ ShortBuffer ∷ NoStep ∷ BadFirmness ∷ LargeChart ∷ []
+    ∷ ShortBuffer ∷ NoStep ∷ BadFirmness ∷ LargeChart ∷ BadRow ∷ ManyTries ∷ []
 
 -- the refusal that tells these numbers
 abbrev refusalBy : List ℕ → Refusal
@@ -39,6 +39,8 @@ back ShortBuffer = refl
 back NoStep = refl
 back BadFirmness = refl
 back LargeChart = refl
+back BadRow = refl
+back ManyTries = refl
 
 -- refusals that tell the same numbers are the same
 pub numbers-same : (f g : Refusal) → numbersOf f ≡ numbersOf g → f ≡ g
@@ -62,9 +64,11 @@ number-some ShortBuffer = omega arith
 number-some NoStep = omega arith
 number-some BadFirmness = omega arith
 number-some LargeChart = omega arith
+number-some BadRow = omega arith
+number-some ManyTries = omega arith
 
--- no refusal has a number above 16
-pub number-low : (f : Refusal) → numberOf f ≤ 16
+-- no refusal has a number above 18
+pub number-low : (f : Refusal) → numberOf f ≤ 18
 number-low Cut = omega arith
 number-low Overlong = omega arith
 number-low BadEdition = omega arith
@@ -81,6 +85,8 @@ number-low ShortBuffer = omega arith
 number-low NoStep = omega arith
 number-low BadFirmness = omega arith
 number-low LargeChart = omega arith
+number-low BadRow = omega arith
+number-low ManyTries = omega arith
 
 -- a loop alone tells a second number
 pub alone : (f : Refusal) → (numberOf f ≡ 11 → ⊥) → stepOf f ≡ 0
@@ -100,6 +106,8 @@ alone ShortBuffer h = refl
 alone NoStep h = refl
 alone BadFirmness h = refl
 alone LargeChart h = refl
+alone BadRow h = refl
+alone ManyTries h = refl
 
 -- ---- outcomes
 

@@ -6,7 +6,7 @@ use lib.ListN.{getD}
 use Rattle.outcome.specs.declared.Refusal.{Refusal}
 use Rattle.outcome.specs.declared.Verdict.{Verdict}
 use Rattle.outcome.specs.declared.Verdict.the-variants.{Accepted, Refused}
-use Rattle.outcome.specs.declared.Refusal.the-variants.{Cut, Overlong, BadEdition, ManySteps, BadKind, OutOfRange, BadNameByte, ManyEdges, BadEnd, Spare, Loop, ManyPoints, ShortBuffer, NoStep, BadFirmness, LargeChart}
+use Rattle.outcome.specs.declared.Refusal.the-variants.{Cut, Overlong, BadEdition, ManySteps, BadKind, OutOfRange, BadNameByte, ManyEdges, BadEnd, Spare, Loop, ManyPoints, ShortBuffer, NoStep, BadFirmness, LargeChart, BadRow, ManyTries}
 
 -- All that a refusal tells: the number that document 01, or 02 from 15 on, gives the reason, and for a loop the step too.
 abbrev pub numbersOf : Refusal → List ℕ
@@ -26,6 +26,8 @@ numbersOf ShortBuffer = 13 ∷ []
 numbersOf NoStep = 14 ∷ []
 numbersOf BadFirmness = 15 ∷ []
 numbersOf LargeChart = 16 ∷ []
+numbersOf BadRow = 17 ∷ []
+numbersOf ManyTries = 18 ∷ []
 
 abbrev pub numberOf : Refusal → ℕ
 numberOf r = getD (numbersOf r) 0 0

@@ -26,6 +26,9 @@ pub enum Refusal {
     BadFirmness,
     // More points than get an x.
     LargeChart,
+    // A row that no order is looked for: row 0, one that the chart does not have, or one of too many points.
+    BadRow,
+    ManyTries,
 }
 
 pub enum Verdict {
@@ -54,5 +57,7 @@ pub fn number_of(f: Refusal) -> usize
         Refusal::NoStep => 14,
         Refusal::BadFirmness => 15,
         Refusal::LargeChart => 16,
+        Refusal::BadRow => 17,
+        Refusal::ManyTries => 18,
     }
 }

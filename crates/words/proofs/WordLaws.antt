@@ -5,9 +5,9 @@ use Prim.Native.Nat.{ℕ, _+_, _*_, _/_, _%_, _<_}
 use native.Mathlib.Omega.{arith}
 use lib.ListN.{getD}
 use Rattle.outcome.specs.declared.Refusal.{Refusal}
-use Rattle.outcome.specs.declared.Refusal.the-variants.{Cut, Overlong, BadEdition, ManySteps, BadKind, OutOfRange, BadNameByte, ManyEdges, BadEnd, Spare, Loop, ManyPoints, ShortBuffer, NoStep, BadFirmness, LargeChart}
+use Rattle.outcome.specs.declared.Refusal.the-variants.{Cut, Overlong, BadEdition, ManySteps, BadKind, OutOfRange, BadNameByte, ManyEdges, BadEnd, Spare, Loop, ManyPoints, ShortBuffer, NoStep, BadFirmness, LargeChart, BadRow, ManyTries}
 use Rattle.outcome.specs.Refusal.{numbersOf, stepOf, refusalIn}
-use Rattle.words.specs.Words.{wordRefusal, wordSteps, wordEdges, wordNameStart, wordNameLength, wordPoints, wordTotal, wordCrossings, wordWritten, wordCase, wordRead, doneRead, writtenRead, pointsRead, strokeRead, countsRead, nameRead, chartRead, second, pointsRoom, totalRoom, doneWord, countsWord, nameWord, chartWord}
+use Rattle.words.specs.Words.{wordRefusal, wordSteps, wordEdges, wordNameStart, wordNameLength, wordPoints, wordTotal, wordCrossings, wordWritten, wordCase, wordFloor, wordRead, doneRead, writtenRead, pointsRead, strokeRead, countsRead, nameRead, chartRead, orderRead, second, pointsRoom, totalRoom, doneWord, countsWord, nameWord, chartWord, orderWord}
 
 -- ---- refusals
 
@@ -38,6 +38,8 @@ refusal-read values ShortBuffer h = refl
 refusal-read values NoStep h = refl
 refusal-read values BadFirmness h = refl
 refusal-read values LargeChart h = refl
+refusal-read values BadRow h = refl
+refusal-read values ManyTries h = refl
 
 -- no more than two numbers come with a refusal, and one alone but with a loop, so its word is the same in every call
 pub refusal-short : (f : Refusal) → (getD (numbersOf f) 2 0 ≡ 0) × (getD (numbersOf f) 3 0 ≡ 0)
@@ -57,6 +59,8 @@ refusal-short ShortBuffer = (refl, refl)
 refusal-short NoStep = (refl, refl)
 refusal-short BadFirmness = (refl, refl)
 refusal-short LargeChart = (refl, refl)
+refusal-short BadRow = (refl, refl)
+refusal-short ManyTries = (refl, refl)
 
 -- so much is said of a word by its call: the numbers read out of it, and which word it is
 module _ (f : Refusal) (low : stepOf f < second) {w : ℕ} (is : w ≡ doneWord (numbersOf f)) {numbers : List ℕ} (e : numbersOf f ≡ numbers) where
@@ -86,6 +90,10 @@ module _ (f : Refusal) (low : stepOf f < second) {w : ℕ} (is : w ≡ doneWord 
   pub chart-refused : (chartRead w ≡ numbers) × (w ≡ chartWord numbers)
   unfolding chartRead
   chart-refused = (read-back (λ w. wordPoints w ∷ wordTotal w ∷ wordCrossings w ∷ []), omega (arith, is, refusal-short f) ∙ ap chartWord e)
+
+  pub order-refused : (orderRead w ≡ numbers) × (w ≡ orderWord numbers)
+  unfolding orderRead
+  order-refused = (read-back (λ w. wordPoints w ∷ wordCrossings w ∷ wordFloor w ∷ []), omega (arith, is, refusal-short f) ∙ ap orderWord e)
 
   -- the name call never tells a loop
   pub name-refused : stepOf f ≡ 0 → (nameRead w ≡ numbers) × (w ≡ nameWord numbers)
@@ -172,6 +180,23 @@ module _ (points total crossings : ℕ) (few : points < pointsRoom) (low : total
   unfolding chartRead
   chart-unpacks = rw (chart-low, chart-points, chart-total, chart-crossings)
 
+module _ (points crossings floor : ℕ) (few : points < pointsRoom) (low : floor < totalRoom) {w : ℕ} (is : w ≡ orderWord (0 ∷ points ∷ crossings ∷ floor ∷ [])) where
+  order-low : wordRefusal w ≡ 0
+  order-low = omega arith
+
+  order-points : wordPoints w ≡ points
+  order-points = omega arith
+
+  order-floor : wordFloor w ≡ floor
+  order-floor = omega arith
+
+  order-crossings : wordCrossings w ≡ crossings
+  order-crossings = omega arith
+
+  pub order-unpacks : orderRead w ≡ 0 ∷ points ∷ crossings ∷ floor ∷ []
+  unfolding orderRead
+  order-unpacks = rw (order-low, order-points, order-crossings, order-floor)
+
 -- so much is said of a word that tells values: the numbers read out of it, and which word it is
 told : (read : ℕ → List ℕ) (word : List ℕ → ℕ) {w : ℕ} {values numbers : List ℕ} → read w ≡ values → w ≡ word values → values ≡ numbers
     → (read w ≡ numbers) × (w ≡ word numbers)
@@ -199,6 +224,10 @@ name-told start len h is e = told nameRead nameWord (name-unpacks start len h is
 pub chart-told : (points total crossings : ℕ) → points < pointsRoom → total < totalRoom → {w : ℕ} → w ≡ chartWord (0 ∷ points ∷ total ∷ crossings ∷ [])
     → {numbers : List ℕ} → 0 ∷ points ∷ total ∷ crossings ∷ [] ≡ numbers → (chartRead w ≡ numbers) × (w ≡ chartWord numbers)
 chart-told points total crossings few low is e = told chartRead chartWord (chart-unpacks points total crossings few low is) is e
+
+pub order-told : (points crossings floor : ℕ) → points < pointsRoom → floor < totalRoom → {w : ℕ} → w ≡ orderWord (0 ∷ points ∷ crossings ∷ floor ∷ [])
+    → {numbers : List ℕ} → 0 ∷ points ∷ crossings ∷ floor ∷ [] ≡ numbers → (orderRead w ≡ numbers) × (w ≡ orderWord numbers)
+order-told points crossings floor few low is e = told orderRead orderWord (order-unpacks points crossings floor few low is) is e
 
 -- ---- demand 3, from the answer to the word
 

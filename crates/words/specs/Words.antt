@@ -47,6 +47,10 @@ wordWritten w = w / 0x100
 abbrev pub wordCase : ℕ → ℕ
 wordCase w = w / 0x100 % 0x100
 
+-- the floor of a row, where a chart has its total; the row's points and crossings are read as those of a chart
+abbrev pub wordFloor : ℕ → ℕ
+wordFloor w = w / 0x80000 % 0x2000000
+
 -- ---- all that is read out of a word, as the numbers that a call tells
 
 -- the refusal's number, and with a loop (11) the step
@@ -77,6 +81,9 @@ nameRead = wordRead (λ w. wordNameStart w ∷ wordNameLength w ∷ [])
 
 unfoldable pub chartRead : ℕ → List ℕ
 chartRead = wordRead (λ w. wordPoints w ∷ wordTotal w ∷ wordCrossings w ∷ [])
+
+unfoldable pub orderRead : ℕ → List ℕ
+orderRead = wordRead (λ w. wordPoints w ∷ wordCrossings w ∷ wordFloor w ∷ [])
 
 -- ---- the words: each number that a call tells times its unit, so that no bit is left free
 
@@ -119,3 +126,7 @@ nameWord numbers = getD numbers 0 0 + getD numbers 2 0 * second + getD numbers 1
 -- the points, above them the total, and above that the crossings
 abbrev pub chartWord : List ℕ → ℕ
 chartWord numbers = getD numbers 0 0 + getD numbers 1 0 * second + getD numbers 2 0 * totalUnit + getD numbers 3 0 * crossingsUnit
+
+-- the points of a row, above them the floor, and above that the crossings
+abbrev pub orderWord : List ℕ → ℕ
+orderWord numbers = getD numbers 0 0 + getD numbers 1 0 * second + getD numbers 3 0 * totalUnit + getD numbers 2 0 * crossingsUnit

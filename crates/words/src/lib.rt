@@ -5,7 +5,7 @@ ghost use mathlib.Core.Path.{_≡_};
 ghost use mathlib.Core.List.{[], _∷_};
 ghost use Prim.Native.Nat.{_<_};
 ghost use Rattle.outcome.specs.Refusal.{numbersOf, stepOf};
-ghost use Rattle.words.specs.Words.{second, third, pointsRoom, totalRoom, crossingsRoom, doneWord, countsWord, nameWord, chartWord};
+ghost use Rattle.words.specs.Words.{second, third, pointsRoom, totalRoom, crossingsRoom, doneWord, countsWord, nameWord, chartWord, orderWord};
 
 // Where the numbers of a word start: behind the low byte, behind the next, and the total and the crossings of a chart.
 const SECOND: usize = 0x100;
@@ -48,6 +48,14 @@ pub fn chart_word(points: usize, total: usize, crossings: usize) -> u64
     (points * SECOND + total * TOTAL + crossings * CROSSINGS) as u64
 }
 
+// The numbers that go with the order of a row as a word: the floor stands where a chart has its total.
+pub fn order_word(points: usize, crossings: usize, floor: usize) -> u64
+    requires { ⌜ (points < pointsRoom) × (crossings < crossingsRoom) × (floor < totalRoom) ⌝ }
+    ensures { λ r. ⌜ r ≡ orderWord (0 ∷ points ∷ crossings ∷ floor ∷ []) ⌝ }
+{
+    chart_word(points, floor, crossings)
+}
+
 // A refusal as a word.
 pub fn refusal_word(f: Refusal) -> u64
     requires { ⌜ stepOf f < second ⌝ }
@@ -77,5 +85,7 @@ fn loop_step(f: Refusal) -> usize
         Refusal::NoStep => 0,
         Refusal::BadFirmness => 0,
         Refusal::LargeChart => 0,
+        Refusal::BadRow => 0,
+        Refusal::ManyTries => 0,
     }
 }

@@ -9,7 +9,7 @@ use types.Run.{OneOf, miss}
 use Rattle.outcome.specs.declared.Refusal.{Refusal}
 use Rattle.outcome.proofs.Refusal.{the-type}
 use Rattle.buffers.specs.Written.{Stored}
-use Rattle.outcome.specs.declared.Refusal.the-variants.{Cut, Overlong, BadEdition, ManySteps, BadKind, OutOfRange, BadNameByte, ManyEdges, BadEnd, Spare, Loop, ManyPoints, ShortBuffer, NoStep, BadFirmness, LargeChart}
+use Rattle.outcome.specs.declared.Refusal.the-variants.{Cut, Overlong, BadEdition, ManySteps, BadKind, OutOfRange, BadNameByte, ManyEdges, BadEnd, Spare, Loop, ManyPoints, ShortBuffer, NoStep, BadFirmness, LargeChart, BadRow, ManyTries}
 use Rattle.outcome.specs.Refusal.{numbersOf, numberOf}
 use Rattle.labels.specs.Text.{text, decimal}
 use Rattle.lines.specs.Lines.{line, refusalText}
@@ -18,7 +18,7 @@ use Rattle.lines.proofs.put_refusal.Statement.{statement}
 use Rattle.lines.proofs.put_refusal.Tie as tie
 
 abbrev others : List ℕ
-others = 0 ∷ 1 ∷ 2 ∷ 3 ∷ 4 ∷ 5 ∷ 6 ∷ 7 ∷ 8 ∷ 9 ∷ 11 ∷ 12 ∷ 13 ∷ 14 ∷ 15 ∷ []
+others = 0 ∷ 1 ∷ 2 ∷ 3 ∷ 4 ∷ 5 ∷ 6 ∷ 7 ∷ 8 ∷ 9 ∷ 11 ∷ 12 ∷ 13 ∷ 14 ∷ 15 ∷ 16 ∷ 17 ∷ []
 
 -- all but a loop tell their number alone
 single : (f : Refusal) → OneOf others (tagOf the-type f) → numbersOf f ≡ numberOf f ∷ []
@@ -38,6 +38,8 @@ single ShortBuffer k = refl
 single NoStep k = refl
 single BadFirmness k = refl
 single LargeChart k = refl
+single BadRow k = refl
+single ManyTries k = refl
 
 -- and a loop its number and its step
 looped : (f : Refusal) (s r : ℕ) → f ≡ Loop s → r ≡ numberOf f → numbersOf f ≡ r ∷ s ∷ []
