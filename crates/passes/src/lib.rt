@@ -13,7 +13,7 @@ ghost use Rattle.barycentre.specs.Flat.{endsIn};
 ghost use Rattle.passes.specs.Laid.{stored, segmentsIn, rowsIn, Standing, ChangedBy, Placeable, Positioned};
 
 // The positions of the points from entry a to entry b of the order, stored by point.
-fn place_row(order: &[usize], a: usize, b: usize, pos: &mut [usize])
+pub fn place_row(order: &[usize], a: usize, b: usize, pos: &mut [usize])
     requires { ⌜ a ≤ b ⌝ }
     requires { ⌜ b ≤ length (now order) ⌝ }
     requires { ⌜ Below (length (now pos)) (slice a b (now order)) ⌝ }
