@@ -2,7 +2,7 @@
 use mathlib.Core.Path.{_≡_, refl, sym, ap, subst, _∙_}
 use mathlib.Core.Bool.{Bool, true, false, cond}
 use mathlib.Core.List.{List, [], _∷_, _++_, map}
-use Prim.Native.Nat.{ℕ, _*_, _≤_, _<_}
+use Prim.Native.Nat.{ℕ, _≤_, _<_}
 use native.Mathlib.Omega.{arith}
 use native.Mathlib.Nat.{mul-le-mul-right}
 use borrow.Author.Tests.{leb-true, le-leb, lt-leb}
@@ -26,19 +26,17 @@ use Rattle.rows.specs.Answers.{rowsBy}
 use Rattle.rows.proofs.StepLaws.{never}
 use Rattle.layering.specs.Calls.{tableRowsFound, rowsOfTable}
 use Rattle.points.specs.Limits.{maxPoints}
-use Rattle.merging.specs.declared.MergedEdge.{MergedEdge}
 use Rattle.merging.specs.Merged.{noMergedEdge, merged, asEdge, drawnEdges}
 use Rattle.merging.specs.Merging.{maxAdded, Mergeable}
 use Rattle.merging.proofs.FirstLaws.{merged-light}
 use Rattle.merging.proofs.SameLaws.{drawn-length, drawn-get}
-use Rattle.fewest.specs.Fewest.{drawingOf}
 use Rattle.fewest.proofs.CompleteLaws.{drawing-count}
 use Rattle.ordering.specs.declared.chart.EdgeEnds.{EdgeEnds}
 use Rattle.ordering.specs.declared.types.ChartFound.{ChartFound}
-use Rattle.ordering.specs.Calls.{drawnIn, Placing, pointCount, unlessMany, chartOfTable, chartOut, filled}
+use Rattle.ordering.specs.Calls.{drawnIn, pointCount, unlessMany, chartOfTable, filled}
 use Rattle.ordering.specs.Charting.{chartedBy, Split, TableFound}
 use Rattle.ordering.proofs.SplitLaws.{part-from, part-weight}
-use Rattle.ordering.proofs.OpenedLaws.{Opened, rows-of, opened-mergeable, opened-drawn, opened-chart}
+use Rattle.ordering.proofs.OpenedLaws.{chart-refused, Opened, rows-of, opened-mergeable, opened-drawn, opened-chart}
 use Rattle.spacing.specs.Limits.{maxXs}
 use Rattle.coordinates.specs.declared.XsAnswer.{XsAnswer}
 use Rattle.coordinates.specs.declared.XsAnswer.the-variants.{Spaced, Refused}
@@ -59,15 +57,11 @@ refused-end bytes old r e = (sym (ap (λ x. x .numbers) e), (sym (ap (λ x. x .x
 
 -- ---- as the chart is
 
-pub out-refused : (o : Outcome Placing) {r : Refusal} → refused r ≡ chartOut o → o ≡ refused r
-out-refused (done p) e = let z : _≡_ {A = ℕ} 0 1 = cc in absurd (omega arith)
-out-refused (refused g) e = sym cc
-
 pub ended-refused : (bytes old : List ℕ) (f : ChartFound) {r : Refusal} → TableFound bytes f → f .verdict ≡ verdict.the-variants.Refused r
     → Ended bytes old old (Refused r)
 unfolding xsOfTable
 ended-refused bytes old f {r} h v =
-    let e : chartOfTable bytes ≡ refused r = out-refused (chartOfTable bytes) (sym (ap (λ u. outcomeBy u (chartedBy f)) v) ∙ h .says) in
+    let e : chartOfTable bytes ≡ refused r = chart-refused (chartOfTable bytes) (sym (ap (λ u. outcomeBy u (chartedBy f)) v) ∙ h .says) in
     refused-end bytes old r (ap (λ o. xsEnd (thenDo o unlessPast) old) e)
 
 -- ---- with a chart

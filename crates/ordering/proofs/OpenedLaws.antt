@@ -180,6 +180,11 @@ module _ (bytes : List ℕ) (table : Table) (flags : List Bool) (f : ChartFound)
 
 -- ---- what a layer above takes from it
 
+-- where nothing is handed out of a chart, it was refused
+pub chart-refused : (o : Outcome Placing) {r : Refusal} → refused r ≡ chartOut o → o ≡ refused r
+chart-refused (done p) e = let z : _≡_ {A = ℕ} 0 1 = cc in absurd (omega arith)
+chart-refused (refused g) e = sym cc
+
 module _ (bytes : List ℕ) (table : Table) (flags : List Bool) (f : ChartFound) (o : Opened bytes table flags f) where
   pub few-own : table .m ≤ maxEdges
   few-own = omega (arith, o .m-is, read-fair bytes (o .said) .few-edges)

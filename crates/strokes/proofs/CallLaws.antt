@@ -33,10 +33,10 @@ use Rattle.ordering.specs.declared.types.ChartFound.{ChartFound}
 use Rattle.ordering.specs.Calls.{drawnIn, pointCount, chartOfTable}
 use Rattle.ordering.specs.Charting.{Split, Storable, chartedBy, TableFound}
 use Rattle.ordering.proofs.DrawnLaws.{directable, list-front}
-use Rattle.ordering.proofs.OpenedLaws.{Opened, few-own, rows-of, opened-drawn, opened-chart}
+use Rattle.ordering.proofs.OpenedLaws.{chart-refused, Opened, few-own, rows-of, opened-drawn, opened-chart}
 use Rattle.spacing.specs.Limits.{maxXs}
 use Rattle.coordinates.specs.Calls.{chartXs, unlessPast}
-use Rattle.coordinates.proofs.CallLaws.{out-refused, lined}
+use Rattle.coordinates.proofs.CallLaws.{lined}
 use Rattle.coordinates.specs.Costing.{Lined}
 use Rattle.corners.specs.declared.Stroke.{Stroke}
 use Rattle.corners.specs.Corners.{maxPlace, Stands}
@@ -62,7 +62,7 @@ pub ended-refused : (bytes : List ℕ) (i : ℕ) (f : ChartFound) {r : Refusal} 
     → Ended bytes i (Refused r)
 unfolding strokeCall strokesOfTable
 ended-refused bytes i f {r} h v =
-    let e : chartOfTable bytes ≡ refused r = out-refused (chartOfTable bytes) (sym (ap (λ u. outcomeBy u (chartedBy f)) v) ∙ h .says) in
+    let e : chartOfTable bytes ≡ refused r = chart-refused (chartOfTable bytes) (sym (ap (λ u. outcomeBy u (chartedBy f)) v) ∙ h .says) in
     (sym (ap (λ o. strokeAt (thenDo o λ p. thenDo (unlessPast p) λ s. done (strokesOf p (s .xs))) i) e), tt)
 
 -- ---- lists and indices
