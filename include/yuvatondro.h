@@ -19,7 +19,7 @@ extern "C" {
 #endif
 
 /* Why a call was turned down, in the order in which the conditions are judged: 1 to 10 and 15 from the bytes of the table from left to
- * right; then 14, or those of 11, 12, 16, 13 that the call judges, in this order. */
+ * right; then 14, or those of 11, 12, 16, 17, 18, 13 that the call judges, in this order. */
 enum {
   YUVATONDRO_DONE = 0,
   YUVATONDRO_CUT = 1,           /* the bytes end in the middle of the table */
@@ -37,13 +37,18 @@ enum {
   YUVATONDRO_SHORT_BUFFER = 13, /* a buffer is too short for what the call puts in it */
   YUVATONDRO_NO_STEP = 14,      /* the table has no step of that number */
   YUVATONDRO_BAD_FIRMNESS = 15, /* a firmness above 1 */
-  YUVATONDRO_LARGE_CHART = 16   /* a chart of more than YUVATONDRO_MAX_XS points */
+  YUVATONDRO_LARGE_CHART = 16,  /* a chart of more than YUVATONDRO_MAX_XS points */
+  YUVATONDRO_BAD_ROW = 17,      /* row 0, a row that the chart does not have, or one of more than YUVATONDRO_MAX_ROW_POINTS points */
+  YUVATONDRO_MANY_TRIES = 18    /* more than YUVATONDRO_MAX_TRIES tries */
 };
 
 enum { YUVATONDRO_MAX_STEPS = 96, YUVATONDRO_MAX_EDGES = 288, YUVATONDRO_MAX_POINTS = 1024 };
 
 /* The most points of a chart for which yuvatondro_xs finds an x each and yuvatondro_stroke_at has strokes. */
 enum { YUVATONDRO_MAX_XS = 128 };
+
+/* The most points of a row for which yuvatondro_row_order looks for an order, and the most tries that it takes. */
+enum { YUVATONDRO_MAX_ROW_POINTS = 32, YUVATONDRO_MAX_TRIES = 50000 };
 
 /* No row is above this: a gap is at most 4. Of a table of n steps none is above 4 * (n - 1); so tables of at most 64 steps, the most
  * there were up to version 1.3, have rows of at most 252, and lists of them that a host kept as bytes stay right. */
@@ -100,6 +105,23 @@ uint64_t yuvatondro_chart(const uint8_t *table, size_t table_len, uint16_t *rows
 static inline unsigned yuvatondro_points(uint64_t chart) { return (unsigned)(chart >> 8 & 0x7FF); }
 static inline unsigned long yuvatondro_total(uint64_t chart) { return (unsigned long)(chart >> 19 & 0x1FFFFFF); }
 static inline unsigned long yuvatondro_crossings(uint64_t chart) { return (unsigned long)(chart >> 44); }
+
+/* The best order of one row of a table's chart, as far as so many tries go: to `order` the points of the row from left to right. All other
+ * rows stand as yuvatondro_chart has them. Answers how many points the row has, for yuvatondro_points; the crossings that it has with the
+ * row above in this order, for yuvatondro_crossings; and a floor for these. Refuses by 1 to 10 and 15, then 11, 12, 17, 18, 13.
+ * YUVATONDRO_MAX_ROW_POINTS entries of `order` are always enough.
+ *
+ * Only the segments between the two rows count: what a line has between them. An order of the row is written down as the positions, from 0,
+ * that its points have in yuvatondro_chart, and the orders come as these lists stand in a dictionary. The first is the row as it is; so many
+ * more are looked at as there are tries, or all there are if these are fewer. Of the orders looked at the answer is the first with fewest
+ * crossings: with 0 tries the row as it is, and with more tries never a worse one.
+ *
+ * The floor takes each pair of points of the row in that of its two orders in which their segments cross less often, and adds these up. No
+ * order of the row has fewer crossings, so that one which meets its floor is the best there is. Not every row has one that does.
+ *
+ * The crossings of the chart with the row below can grow where a row is put in its best order. */
+uint64_t yuvatondro_row_order(const uint8_t *table, size_t table_len, size_t row, size_t tries, uint16_t *order, size_t order_len);
+static inline unsigned long yuvatondro_floor(uint64_t answer) { return (unsigned long)(answer >> 19 & 0x1FFFFFF); }
 
 /* How far from the left the points of a chart stand: to `xs` a whole x for each, by point number, steps first and then dummies as above.
  * x count from 0, and each is at least 1 more than that of the point's left neighbour in the order of yuvatondro_chart. Answers how many

@@ -7,12 +7,14 @@ use plain::PlainStroke;
 use plain::plain_answer;
 use queries::types::CountsAnswer;
 use queries::types::NameAnswer;
+use rearranging::OrderAnswer;
 use rows::types::Row;
 use rows::types::RowsAnswer;
 use table::rule::Rule;
 use words::chart_word;
 use words::counts_word;
 use words::name_word;
+use words::order_word;
 use words::refusal_word;
 use words::written_word;
 use writing::WriteAnswer;
@@ -24,10 +26,11 @@ ghost use Rattle.flatten.specs.Records.{recordsOf};
 ghost use Rattle.edgelist.specs.Calls.{recordCall, RecordsBest};
 ghost use Rattle.layering.specs.Calls.{rowsCall, TableBest};
 ghost use Rattle.ordering.specs.Calls.{chartCall, ChartBest};
+ghost use Rattle.rearranging.specs.Calls.{orderCall, OrderShown};
 ghost use Rattle.coordinates.specs.Calls.{xsCall, XsBest};
 ghost use Rattle.strokes.specs.Calls.{strokeCall};
 ghost use Rattle.plain.specs.Plain.{strokeNumbers, plainAnswer, PlainExact};
-ghost use Rattle.words.specs.Words.{countsRead, countsWord, nameRead, nameWord, writtenRead, pointsRead, strokeRead, doneRead, doneWord, chartRead, chartWord};
+ghost use Rattle.words.specs.Words.{countsRead, countsWord, nameRead, nameWord, writtenRead, pointsRead, strokeRead, doneRead, doneWord, chartRead, chartWord, orderRead, orderWord};
 
 // The steps and the edges of a table.
 #[no_mangle]
@@ -125,6 +128,25 @@ pub extern "C" fn yuvatondro_chart(table: &[u8], rows: &mut [Row], order: &mut [
     match ordering::draw_chart(table, rows, order) {
         ChartAnswer::Refused(f) => refusal_word(f),
         ChartAnswer::Drawn(f) => chart_word(f.points, f.total, f.crossings),
+    }
+}
+
+// The points of one row of a table's chart in the best order that so many tries find, to a lent buffer.
+#[no_mangle]
+pub extern "C" fn yuvatondro_row_order(
+    table: &[u8],
+    row: usize,
+    tries: usize,
+    order: &mut [u16],
+) -> u64
+    ensures { λ r. ⌜ orderRead r ≡ orderCall (now (table .entry)) row tries (now (order .entry)) .numbers ⌝ }
+    ensures { λ r. ⌜ r ≡ orderWord (orderCall (now (table .entry)) row tries (now (order .entry)) .numbers) ⌝ }
+    ensures { λ _. ⌜ now (order .exit) ≡ orderCall (now (table .entry)) row tries (now (order .entry)) .order ⌝ }
+    ensures { λ r. ⌜ OrderShown (now (table .entry)) row tries (orderRead r) (now (order .exit)) ⌝ }
+{
+    match rearranging::find_order(table, row, tries, order) {
+        OrderAnswer::Refused(f) => refusal_word(f),
+        OrderAnswer::Ordered(f) => order_word(f.points, f.crossings, f.floor),
     }
 }
 
