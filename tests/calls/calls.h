@@ -84,6 +84,7 @@ uint64_t call_rows(const Table *t, size_t room, uint16_t *rows);
 uint64_t call_records(size_t steps, const size_t *records, size_t numbers, size_t room, uint16_t *rows);
 uint64_t call_chart(const Table *t, size_t room, size_t points, uint16_t *rows, uint16_t *order);
 uint64_t call_xs(const Table *t, size_t room, uint16_t *xs);
+uint64_t call_row_order(const Table *t, size_t row, size_t tries, size_t room, uint16_t *order);
 uint64_t call_write(const Table *t, size_t room, uint8_t *out);
 uint64_t call_convert(const Table *t, size_t room, uint8_t *out);
 
@@ -104,6 +105,21 @@ void expect_refused_strokes(const Table *t, uint64_t answer, const char *what);
 /* The strokes of a table whose chart has x are those of its lines, by the rows and x that the other calls give. */
 void expect_strokes(const char *what, size_t steps, const Edges *lines, const Table *t);
 
+/* The order of a row that is due: its points from left to right, the crossings that it has with the row above, and the floor. */
+typedef struct {
+  size_t points;
+  const uint16_t *order;
+  unsigned long crossings, floor;
+} Ordered;
+/* With so many tries the call gives this order of a row, in buffers of every telling length. */
+void expect_order(const char *what, const Table *t, size_t row, size_t tries, const Ordered *due);
+/* The order of a row is the best of so many tries: the row as it is and all orders behind it are written down and counted here, by the rows
+ * and the order of the chart call and the lines of the table. None has fewer crossings than the floor. Where the best changes with a number of
+ * tries, the call is made with one fewer too. A row of too many points, or none, is refused. Gives the points of the row. */
+size_t expect_best(const char *what, const Table *t, size_t steps, const Edges *lines, size_t row, size_t tries);
+/* The table is refused by this answer, whatever row is asked for, with how many tries and into which buffer. */
+void expect_refused_orders(const Table *t, uint64_t answer, const char *what);
+
 void test_rows_calls(void);
 void test_chart_call(void);
 void test_soft_edges(void);
@@ -115,5 +131,6 @@ void test_means(void);
 void test_merged_edges(void);
 void test_xs_call(void);
 void test_stroke_call(void);
+void test_row_order_call(void);
 
 #endif

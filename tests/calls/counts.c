@@ -10,6 +10,7 @@ static void expect_refused(const Table *t, unsigned due, const char *what) {
   expect_of("chart", call_chart(t, 0, 0, rows, order) == due && call_chart(t, ROWS, POINTS, rows, order) == due, what);
   expect_of("xs", call_xs(t, 0, order) == due && call_xs(t, POINTS, order) == due, what);
   expect_refused_strokes(t, due, what);
+  expect_refused_orders(t, due, what);
   expect_of("write", call_write(t, 0, out) == due && call_write(t, YUVATONDRO_MAX_SHORTEST, out) == due, what);
   expect_of("convert", call_convert(t, 0, out) == due && call_convert(t, YUVATONDRO_MAX_SHORTEST, out) == due, what);
 }
@@ -33,6 +34,7 @@ static void expect_taken(size_t steps, const Edges *edges) {
   for (size_t i = 0; i < steps; i++) expect(order[i] == (edges->count > 0 ? 0 : i), "xs: a step alone in its row, or all in one");
   expect(yuvatondro_stroke_case(call_stroke(&t, 1).answer) == (edges->count > 0 ? YUVATONDRO_LINE : YUVATONDRO_NO_STROKE), "strokes: a line");
   expect(call_stroke(&t, 2).answer == YUVATONDRO_NO_STROKE, "strokes: one line, however many edges");
+  expect(call_row_order(&t, 1, 1, 1, order) == (edges->count > 0 ? 1 << 8 : 17), "row order: a step alone in its row, or no second row");
   test_writer("write", call_write, &t, &t);
   test_writer("convert", call_convert, &t, &t);
 }

@@ -72,3 +72,10 @@ uint64_t call_xs(const Table *t, size_t room, uint16_t *xs) {
   take_back(&lent, "xs", answer, xs);
   return answer;
 }
+
+uint64_t call_row_order(const Table *t, size_t row, size_t tries, size_t room, uint16_t *order) {
+  Lent lent;
+  uint64_t answer = yuvatondro_row_order(t->byte, t->len, row, tries, lend(&lent, room * sizeof *order), room);
+  take_back(&lent, "row order", answer, order);
+  return answer;
+}

@@ -29,6 +29,7 @@ int main(void) {
   test_merged_edges();
   test_xs_call();
   test_stroke_call();
+  test_row_order_call();
   printf("host: %d checks, each as expected\n", checks);
   return 0;
 }

@@ -157,7 +157,15 @@ static void expect_same_xs(const Table *t, const Table *joined, size_t points) {
   expect(same_entries(xs[0], xs[1], POINTS), "repeated: xs");
 }
 
-/* They have the same chart. The x of some are enough, and the strokes of fewer, since to find x takes most of the time. */
+/* Every row of the table is in its best order by the lines, and there are as many as there should be. */
+static void expect_orders(size_t steps, const Edges *merged, const Table *t, const uint16_t *rows) {
+  size_t row = 1, last = 0;
+  for (size_t i = 0; i < steps; i++) last = rows[i] > last ? rows[i] : last;
+  while (expect_best("repeated: row order", t, steps, merged, row, 23) > 0) row++;
+  expect(row == last + 1, "repeated: the rows that have an order");
+}
+
+/* They have the same chart. The x of some are enough, and the strokes and orders of fewer, since to find them takes most of the time. */
 static void test_same_chart(void) {
   uint32_t state = 1;
   for (size_t round = 0; round < 2000; round++) {
@@ -175,6 +183,7 @@ static void test_same_chart(void) {
     expect(call_chart(&t, steps, points - 1, rows[1], order[1]) == 13, "repeated: order one short");
     if (round % 8 == 0) expect_same_xs(&t, &joined, points);
     if (round % 128 == 0 && points <= YUVATONDRO_MAX_XS) expect_strokes("repeated: strokes", steps, &merged, &t);
+    if (round % 64 == 1) expect_orders(steps, &merged, &t, rows[0]);
   }
 }
 

@@ -37,6 +37,11 @@ static void test_same(const Table *t, const Table *shortest) {
   expect(call_xs(t, POINTS, order[0]) == call_xs(shortest, POINTS, order[1]), "written: the answer of xs");
   expect(same_entries(order[0], order[1], POINTS), "written: xs");
   for (size_t i = 0; i < 4; i++) expect(same_stroke(call_stroke(t, i), call_stroke(shortest, i)), "written: a stroke");
+  for (size_t i = 0; i < 4; i++) {
+    uint64_t best = call_row_order(t, i, 5, POINTS, order[0]);
+    expect(call_row_order(shortest, i, 5, POINTS, order[1]) == best, "written: the answer of row order");
+    expect(same_entries(order[0], order[1], POINTS), "written: the order of a row");
+  }
   expect(wrote(call_write(shortest, shortest->len, out), out, shortest), "written again");
 }
 
