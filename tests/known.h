@@ -1,6 +1,6 @@
-/* What the programs of tests/xs and tests/strokes share: the tables on standard input, one a line in hexadecimal, and what is known of the
- * chart of each, ` -> ` behind it: `points` and how many there are in each row, or `refused` and the number, and of a loop its step behind
- * it. A program tells its name as `program` before it takes this in. */
+/* What the programs of tests/xs, tests/strokes and tests/orders share: the tables on standard input, one a line in hexadecimal, and what is
+ * known of the chart of each, ` -> ` behind it: `points` and how many there are in each row, or `refused` and the number, and of a loop its
+ * step behind it. A program tells its name as `program` before it takes this in. */
 #ifndef KNOWN_H
 #define KNOWN_H
 

@@ -116,9 +116,11 @@ row_sizes() {
             print ""
         }'
 }
+# behind_tables: the stored tables, each with a line of standard input behind it
+behind_tables() { paste -d '@' "$work/tables" - | sed 's/@/ -> /'; }
 # known_charts: makes $work/known, every table that tests/chart reads from a file with what is known of its points
 known_charts() {
     # shellcheck disable=SC2086
     store $charts
-    row_sizes <"$work/results" | paste -d '@' "$work/tables" - | sed 's/@/ -> /' >"$work/known"
+    row_sizes <"$work/results" | behind_tables >"$work/known"
 }
