@@ -1,11 +1,11 @@
 // Times this build of the library against an earlier one, on tables of edition 1, which both read.
 //   before FILE..        the shapes of shapes.c, charts with the widest rows, and the stored instances FILE..
-//   before once WHAT     rows, charts, repeated or xs: such calls on the largest shapes once and untimed; prints how many tables there were,
+//   before once WHAT     rows, charts, repeated, xs or stroke: such calls on the largest shapes once and untimed; prints how many tables there were,
 //                        and their size
 //
 // bench/before links both libraries, each with the adapters rows_call.c and chart_call.c, and gives the two names of their own. Where the
 // earlier one has the calls that write tables, WRITES is defined and write_call.c is linked too; where it has the call for x, PLACES and
-// xs_call.c.
+// xs_call.c; where it has the one for strokes, DRAWS and strokes_call.c.
 //
 // earlier.c finds out what the earlier build is. Tables that it refuses for their size are left out. Where its rows are bytes they become
 // entries of 16 bits before two answers are compared, behind the clock. Both builds are lent the same buffer and told the same number of
@@ -94,6 +94,25 @@ static void xs_before(const uint8_t *table, size_t length, ChartAnswer *answer) 
 static void xs_now(const uint8_t *table, size_t length, ChartAnswer *answer) { answer->refusal = now_call_xs(table, length, answer->order); }
 #endif
 
+#ifdef DRAWS
+// The first line stroke goes to the order's place, by its case and the bits of its corner.
+static void keep_stroke(const Stroke *stroke, ChartAnswer *answer) {
+  memcpy(answer->order, &stroke->what, sizeof stroke->what);
+  memcpy(answer->order + 2, &stroke->x, sizeof stroke->x);
+  memcpy(answer->order + 4, &stroke->y, sizeof stroke->y);
+}
+static void stroke_before(const uint8_t *table, size_t length, ChartAnswer *answer) {
+  Stroke stroke;
+  answer->refusal = before_call_stroke(table, length, 1, &stroke);
+  keep_stroke(&stroke, answer);
+}
+static void stroke_now(const uint8_t *table, size_t length, ChartAnswer *answer) {
+  Stroke stroke;
+  answer->refusal = now_call_stroke(table, length, 1, &stroke);
+  keep_stroke(&stroke, answer);
+}
+#endif
+
 // ---- what is measured of the shapes, at each size ----
 
 static void make_plain(Instance *inst, size_t shape, size_t nodes, uint64_t seed) {
@@ -139,6 +158,9 @@ static const Group groups[] = {
 #endif
 #ifdef PLACES
   { "xs", "The call for x", xs_before, xs_now, make_placed, 1 },
+#endif
+#ifdef DRAWS
+  { "stroke", "The call for a stroke", stroke_before, stroke_now, make_placed, 1 },
 #endif
 };
 enum { GROUPS = sizeof groups / sizeof *groups };

@@ -1,9 +1,10 @@
 // The two builds that bench/before links: the adapters rows_call.c, chart_call.c and, where both have the calls that write tables,
-// write_call.c, and where both have the call for x, xs_call.c, under a name for each build.
+// write_call.c, where both have the call for x, xs_call.c, and where both have the one for strokes, strokes_call.c, under a name for each build.
 #ifndef BUILDS_H
 #define BUILDS_H
 #include "chart_call.h"
 #include "rows_call.h"
+#include "strokes_call.h"
 
 unsigned before_call_rows(const uint8_t *table, size_t length, uint16_t *rows, size_t nodes);
 unsigned before_call_records(size_t nodes, const size_t *numbers, size_t count, uint16_t *rows);
@@ -28,4 +29,7 @@ size_t now_call_convert(const uint8_t *table, size_t length, uint8_t *out);
 unsigned before_call_xs(const uint8_t *table, size_t length, uint16_t *xs);
 void before_cut_to_xs(Instance *inst);
 unsigned now_call_xs(const uint8_t *table, size_t length, uint16_t *xs);
+
+unsigned before_call_stroke(const uint8_t *table, size_t length, size_t index, Stroke *stroke);
+unsigned now_call_stroke(const uint8_t *table, size_t length, size_t index, Stroke *stroke);
 #endif

@@ -39,6 +39,14 @@ void make_wide(Instance *inst, size_t upper, size_t lower, uint64_t seed);
 // of the other edges so many lead over two layers and the rest over one. All gaps are 1 and no two edges have the same ends.
 void make_layers(Instance *inst, size_t layers, size_t edges, size_t long_edges, uint64_t seed);
 
+// So many nodes over so many others, with so many edges of gap 1 between them, no two with the same ends; each of the lower ones has one, so
+// that all stand in the next row. There are no more edges than pairs of such nodes, and no fewer than lower ones.
+void make_two_rows(Instance *inst, size_t upper, size_t lower, size_t edges, uint64_t seed);
+
+// As many points as a chart may have, in 32 rows of 32: in all but the first and the last row 31 dummies of lines between those two, and a chain.
+// The chain holds the last row down by an edge to each of its nodes. A line ends at any of them.
+void make_tall(Instance *inst, uint64_t seed);
+
 // A number below k, from the sequence that the last instance was made from.
 size_t random_below(size_t k);
 

@@ -5,11 +5,14 @@
 //   once charts NODES   the charts of the shapes of that size, cut to as many edges as are accepted
 //   once xs NODES       the x of the same, cut to as many edges as leave few enough points
 //   once stroke NODES   the strokes of the same, asked for behind the last, so that all lines are gone through
+//   once order NODES    the best order of the widest row of the charts that is not too wide, with 50,000 tries
+//   once present NODES  the same with no tries
 //   once soft NODES     our rows of the shapes of that size, with soft edges of which about half are turned
 //   once settled NODES  our rows of the same edges as kept or turned
 //   once short NODES    the shapes of that size, read, and written in their shortest form, which they have already
 //   once long NODES     the same with full steps and soft edges, read, and converted with each number in three bytes
 #include "chart_call.h"
+#include "orders_call.h"
 #include "peer.h"
 #include "rows_call.h"
 #include "sizes.h"
@@ -63,6 +66,20 @@ static void stroke_once(Instance *inst) {
   cut_to_xs(inst);
   seek_once(table, write_table(inst, table));
 }
+// And for the best order of a row.
+__attribute__((noinline)) void search_once(const uint8_t *table, size_t length, size_t row, size_t tries) {
+  OrderAnswer answer;
+  call_row_order(table, length, row, tries, &answer);
+  if (answer.refusal != 0) exit(1);
+}
+static void try_once(Instance *inst, size_t tries) {
+  static uint8_t table[YUVATONDRO_MAX_STORED];
+  cut_to_accepted(inst);
+  size_t length = write_table(inst, table);
+  search_once(table, length, find_widest_row(table, length), tries);
+}
+static void order_once(Instance *inst) { try_once(inst, YUVATONDRO_MAX_TRIES); }
+static void present_once(Instance *inst) { try_once(inst, 0); }
 // The rows of a table of soft edges, or of the same edges as kept or turned.
 static void soft_once(const SoftInstance *soft, int settled) {
   static uint8_t table[YUVATONDRO_MAX_STORED];
@@ -108,6 +125,8 @@ static int run_shapes(size_t nodes, void (*once)(Instance *)) {
 static int run_charts(size_t nodes) { return run_shapes(nodes, chart_once); }
 static int run_xs(size_t nodes) { return run_shapes(nodes, xs_once); }
 static int run_stroke(size_t nodes) { return run_shapes(nodes, stroke_once); }
+static int run_order(size_t nodes) { return run_shapes(nodes, order_once); }
+static int run_present(size_t nodes) { return run_shapes(nodes, present_once); }
 static int run_short(size_t nodes) { return run_shapes(nodes, short_once); }
 static int run_long(size_t nodes) { return run_shapes(nodes, long_once); }
 
@@ -122,8 +141,8 @@ static int run_files(int files, char **paths) {
 
 typedef int (*Run)(size_t nodes);
 static const struct { const char *name; Run run; } named[] = {
-  { "charts", run_charts }, { "xs", run_xs }, { "stroke", run_stroke }, { "soft", run_soft }, { "settled", run_settled },
-  { "short", run_short }, { "long", run_long },
+  { "charts", run_charts }, { "xs", run_xs }, { "stroke", run_stroke }, { "order", run_order }, { "present", run_present },
+  { "soft", run_soft }, { "settled", run_settled }, { "short", run_short }, { "long", run_long },
 };
 static Run find_named(const char *name) {
   for (size_t k = 0; k < sizeof named / sizeof *named; k++) if (strcmp(name, named[k].name) == 0) return named[k].run;

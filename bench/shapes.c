@@ -171,6 +171,32 @@ void make_layers(Instance *g, size_t layers, size_t edges, size_t long_edges, ui
   shuffle(g);
   snprintf(g->name, MAX_NAME, "%zu layers %d", layers, (int)seed);
 }
+void make_two_rows(Instance *g, size_t upper, size_t lower, size_t edges, uint64_t seed) {
+  state = seed * 1000003 + upper * 7919 + edges;
+  g->nodes = upper + lower;
+  g->edges = 0;
+  for (size_t v = upper; v < g->nodes; v++) g->edge[g->edges++] = (Edge){ below(upper), v, 1, below(256) };
+  while (g->edges < edges) {
+    size_t from = below(upper), to = upper + below(lower);
+    if (!is_there(g, from, to)) g->edge[g->edges++] = (Edge){ from, to, 1, below(256) };
+  }
+  renumber(g);
+  shuffle(g);
+  snprintf(g->name, MAX_NAME, "%zu over %zu, %d", upper, lower, (int)seed);
+}
+void make_tall(Instance *g, uint64_t seed) {
+  enum { SIDE = 32, ROW = SIDE - 1, LINKS = 8, FIRST = LINKS + 1, LAST = FIRST + SIDE - 1 };  // rows of the chain: 0, 4, to 28, and 30
+  _Static_assert(SIDE * SIDE == YUVATONDRO_MAX_POINTS, "not as many points as a chart may have");
+  state = seed * 1000003;
+  g->nodes = LAST + SIDE;
+  g->edges = 0;
+  for (size_t v = 0; v < LINKS; v++) g->edge[g->edges++] = (Edge){ v, v + 1, v + 1 < LINKS ? 4 : ROW - 1 - 4 * (LINKS - 1), 1 };
+  for (size_t v = LAST; v < g->nodes; v++) g->edge[g->edges++] = (Edge){ LINKS, v, 1, 1 };
+  for (size_t v = FIRST; v < LAST; v++) g->edge[g->edges++] = (Edge){ v, LAST + below(SIDE), 1, 0 };
+  renumber(g);
+  shuffle(g);
+  snprintf(g->name, MAX_NAME, "tall, %d", (int)seed);
+}
 void make_wide(Instance *g, size_t upper, size_t lower, uint64_t seed) {
   size_t pairs = upper * lower;  // of which each is as likely as any other to have an edge
   state = seed * 1000003 + pairs * 7919 + upper;

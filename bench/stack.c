@@ -39,9 +39,13 @@ static uint64_t run_xs(const Input *in) { return yuvatondro_xs(in->table, in->le
 // The first line stroke, for which a point behind the first step is looked up.
 static uint64_t run_stroke(const Input *in) { return yuvatondro_stroke_at(in->table, in->length, 1).answer; }
 
+// Row 1, which most of the charts have and which is not too wide in most. More tries go no deeper.
+static uint64_t run_order(const Input *in) { return yuvatondro_row_order(in->table, in->length, 1, 23, order, YUVATONDRO_MAX_POINTS); }
+
 static Call calls[] = { { "counts", run_counts, 0, 0, 0 }, { "name", run_name, 0, 0, 0 }, { "write", run_write, 0, 0, 0 },
                         { "convert", run_convert, 0, 0, 0 }, { "rows", run_rows, 0, 0, 0 }, { "records", run_records, 0, 0, 0 },
-                        { "chart", run_chart, 0, 0, 0 }, { "xs", run_xs, 0, 0, 0 }, { "stroke", run_stroke, 0, 0, 0 } };
+                        { "chart", run_chart, 0, 0, 0 }, { "xs", run_xs, 0, 0, 0 }, { "stroke", run_stroke, 0, 0, 0 },
+                        { "order", run_order, 0, 0, 0 } };
 enum { CALLS = sizeof calls / sizeof *calls };
 
 static uint8_t stack[STACK];

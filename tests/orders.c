@@ -5,7 +5,8 @@
  *   orders check    each table has ` -> ` behind it and what is known of its chart, as known.h has it. Holds the call to that and to
  *                   yuvatondro_chart, for every row. Prints what became of how many rows and tables
  *   orders limits   reads nothing and prints the most points of a row and the most tries that the header has
- * Each call is tried with all the buffers of lent.h, but for those with more tries in a check. Ends with status 1 at the first surprise, and with 2 if none of these is named. */
+ * Each call is tried with all the buffers of lent.h, but for those with more tries in a check. Ends with status 1 at the first surprise, and
+ * with 2 if none of these is named. */
 static const char program[] = "orders";
 #include "known.h"
 #include "lent.h"
