@@ -12,8 +12,9 @@
 //   once short NODES    the shapes of that size, read, and written in their shortest form, which they have already
 //   once long NODES     the same with full steps and soft edges, read, and converted with each number in three bytes
 #include "chart_call.h"
-#include "orders_call.h"
+#include "merged.h"
 #include "peer.h"
+#include "row_search.h"
 #include "rows_call.h"
 #include "sizes.h"
 #include "soft.h"
@@ -74,9 +75,13 @@ __attribute__((noinline)) void search_once(const uint8_t *table, size_t length, 
 }
 static void try_once(Instance *inst, size_t tries) {
   static uint8_t table[YUVATONDRO_MAX_STORED];
+  static Instance merged;
+  static ChartAnswer chart;
   cut_to_accepted(inst);
+  merge_edges(inst, &merged);
   size_t length = write_table(inst, table);
-  search_once(table, length, find_widest_row(table, length), tries);
+  call_chart(table, length, &chart);
+  search_once(table, length, find_widest_row(&merged, &chart), tries);
 }
 static void order_once(Instance *inst) { try_once(inst, YUVATONDRO_MAX_TRIES); }
 static void present_once(Instance *inst) { try_once(inst, 0); }

@@ -19,7 +19,7 @@ enum { ROUNDS = 9, MAX_CASES = 96, POINTS = YUVATONDRO_MAX_ROW_POINTS };
 static const double limit_us = 10000;  // of the slowest table
 
 typedef struct {
-  char name[MAX_NAME];
+  char name[2 * MAX_NAME];  // with the size
   uint8_t table[YUVATONDRO_MAX_STORED];
   size_t length, lines, row;
   long segments;
@@ -87,7 +87,7 @@ static void add_case(const Instance *inst) {
   static Instance merged;
   static ChartRow row;
   Case *c = &cases[count];
-  snprintf(c->name, sizeof c->name, "%s", inst->name);
+  snprintf(c->name, sizeof c->name, "%s, %zu/%zu", inst->name, inst->nodes, inst->edges);
   merge_edges(inst, &merged);
   c->lines = merged.edges;
   c->length = write_table(inst, c->table);

@@ -12,7 +12,4 @@ typedef struct {
 
 // The best order of a row of a table's chart, of so many tries.
 void call_row_order(const uint8_t *table, size_t length, size_t row, size_t tries, OrderAnswer *answer);
-
-// The row with most points of those that may have an order, the uppermost of such; 0 where there is none.
-size_t find_widest_row(const uint8_t *table, size_t length);
 #endif

@@ -14,6 +14,17 @@ static void count_points_at(const Instance *g, const ChartAnswer *a, int number,
     *points += first <= number && number < end;
   }
 }
+size_t find_widest_row(const Instance *g, const ChartAnswer *a) {
+  size_t widest = 0;
+  long above, points, most = 0;
+  for (size_t number = 1; number <= YUVATONDRO_MAX_ROW; number++) {
+    count_points_at(g, a, number, &above, &points);
+    if (points <= most || points > YUVATONDRO_MAX_ROW_POINTS) continue;
+    widest = number;
+    most = points;
+  }
+  return widest;
+}
 // Where each line with a segment between a row and the one above it stands in both.
 static long find_segments(const Instance *g, const Drawing *d, int number, int (*ends)[2]) {
   long segments = 0;

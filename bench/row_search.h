@@ -16,6 +16,9 @@ typedef struct {
 // more points than are looked at.
 int find_chart_row(const Instance *merged, const ChartAnswer *chart, size_t number, ChartRow *row);
 
+// The row with most points of those that may have an order, the uppermost of such; 0 where there is none.
+size_t find_widest_row(const Instance *merged, const ChartAnswer *chart);
+
 // The answer that is due: the first with fewest crossings of the row as it is and of so many orders behind it.
 void search_row(const ChartRow *row, size_t tries, OrderAnswer *due);
 #endif
