@@ -1,7 +1,7 @@
 // Times this build of the library against an earlier one, on tables of edition 1, which both read.
 //   before FILE..        the shapes of shapes.c, charts with the widest rows, and the stored instances FILE..
-//   before once WHAT     rows, charts, repeated, xs or stroke: such calls on the largest shapes once and untimed; prints how many tables there were,
-//                        and their size
+//   before once WHAT     rows, charts, repeated, xs or stroke: such calls on the largest shapes once and untimed; prints how many tables there
+//                        were, and their size
 //
 // bench/before links both libraries, each with the adapters rows_call.c and chart_call.c, and gives the two names of their own. Where the
 // earlier one has the calls that write tables, WRITES is defined and write_call.c is linked too; where it has the call for x, PLACES and

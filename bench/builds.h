@@ -1,5 +1,6 @@
 // The two builds that bench/before links: the adapters rows_call.c, chart_call.c and, where both have the calls that write tables,
-// write_call.c, where both have the call for x, xs_call.c, and where both have the one for strokes, strokes_call.c, under a name for each build.
+// write_call.c, where both have the call for x, xs_call.c, and where both have the one for strokes, strokes_call.c, under a name for each
+// build.
 #ifndef BUILDS_H
 #define BUILDS_H
 #include "chart_call.h"

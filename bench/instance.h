@@ -43,8 +43,8 @@ void make_layers(Instance *inst, size_t layers, size_t edges, size_t long_edges,
 // that all stand in the next row. There are no more edges than pairs of such nodes, and no fewer than lower ones.
 void make_two_rows(Instance *inst, size_t upper, size_t lower, size_t edges, uint64_t seed);
 
-// As many points as a chart may have, in 32 rows of 32: in all but the first and the last row 31 dummies of lines between those two, and a chain.
-// The chain holds the last row down by an edge to each of its nodes. A line ends at any of them.
+// As many points as a chart may have, in 32 rows of 32: in all but the first and the last row 31 dummies of lines between those two, and a
+// point of a chain, which holds the last row down by an edge to each of its nodes. A line ends at any of them.
 void make_tall(Instance *inst, uint64_t seed);
 
 // A number below k, from the sequence that the last instance was made from.

@@ -7,7 +7,7 @@
 /* A chart by the chart call, with the row and the position of every point. */
 typedef struct {
   uint16_t rows[ROWS], order[POINTS], row_of[POINTS], place[POINTS];
-  size_t points, dummies;
+  size_t points;
 } Chart;
 
 /* A row with another above it: its points from left to right, and of each segment that leads to one of them the positions of both ends. */
@@ -33,6 +33,7 @@ static size_t point_in(const Chart *chart, const Line *line, size_t row) {
 
 static size_t count_dummies(const Chart *chart, const Line *line) { return chart->rows[line->lower] - chart->rows[line->upper] - 1u; }
 
+/* Dummies are numbered by line and rising row, and the order goes through the rows one after another. */
 static void place_points(Chart *chart, size_t steps, const Edges *lines) {
   size_t dummy = steps;
   for (size_t i = 0; i < steps; i++) chart->row_of[i] = chart->rows[i];
