@@ -1,5 +1,5 @@
 /* The calls on a table, in the order in which it can be refused. The call on edges without a table is in points.c, the
- * one for stored tables in stored.c. */
+ * one for stored tables in stored.c, and the one for the best order of a row in row_order.c. */
 #include "chart.h"
 
 /* The counts, the name of each step, the shortest form of the table; then its kinds, its edges, and their lines. */

@@ -101,10 +101,24 @@ typedef struct {
   Corner corner[YUVATONDRO_MAX_POINTS];
 } Chart;
 
+/* An order of one row: its points from left to right, and the crossings with the row above, with the row below, and of the whole chart. */
+typedef struct {
+  uint16_t point[YUVATONDRO_MAX_ROW_POINTS];
+  unsigned long above, below, all;
+} OrderedRow;
+
+/* A row as it is and in the best order that was found in so many tries, and the floor of its crossings with the row above. */
+typedef struct {
+  unsigned row, tries, points;
+  unsigned long floor;
+  OrderedRow present, found;
+} RowOrder;
+
 /* load.c: reads a table from a file and asks for its chart, or, if it was stored in long forms, for that of what it is converted to; then
- * places what is drawn. Gives 0 and the library's answer, which is a refusal or not, or else tells the trouble and gives its status. The
- * name of the program stands before each message. */
+ * places what is drawn, as place_chart does for an order. Gives 0 and the library's answer, which is a refusal or not, or else tells the
+ * trouble and gives its status. The name of the program stands before each message. */
 int load_chart(const char *program, const char *path, Chart *chart, uint64_t *answer);
+int place_chart(const char *program, Chart *chart);
 int report(const char *program, const char *path);
 
 /* stored.c: whether the library takes the table only by the rule of tables stored before long forms of numbers were refused. Then its
@@ -139,12 +153,21 @@ void find_middles(const Chart *chart, const long *width, long blank, long *middl
 /* layout.c: the same without x. */
 void lay_out(const Chart *chart, const long *width, long blank, long *x);
 
+/* row_order.c: asks the library for the best order of a row in so many tries and puts that row of the chart in it; status and answer as of
+ * load_chart. A chart with an order of its own has no x, and its strokes are made as for one that is too large for them. */
+int order_row(const char *program, Chart *chart, size_t row, size_t tries, RowOrder *r, uint64_t *answer);
+void list_row_order(FILE *out, const Chart *chart, const RowOrder *r);
+
 /* refusal.c: a sentence on what a refusal means and what to do about it. */
 void explain_refusal(FILE *out, const char *program, const Chart *chart, uint64_t answer);
 
-/* lists.c, draw_text.c, draw_svg.c */
-void list_chart(FILE *out, const Chart *chart);
+/* draw_text.c: the text of a point, with its length; and the drawing in text. */
+enum { POINT_TEXT = 32 };
+int point_text(const Chart *chart, unsigned point, char text[POINT_TEXT]);
 void draw_text(FILE *out, const Chart *chart);
+
+/* lists.c, draw_svg.c */
+void list_chart(FILE *out, const Chart *chart);
 void draw_svg(FILE *out, const Chart *chart);
 
 #endif

@@ -3,19 +3,18 @@
  * neighbouring rows are not drawn: the list of edges has them. Points with the same x have their middles below each other. */
 #include "chart.h"
 
-enum { UNITS = 16, LONGEST = 32 };
+enum { UNITS = 16 };
 
-/* The text of a point; gives its length. */
-static int point_text(const Chart *chart, unsigned point, char text[LONGEST]) {
+int point_text(const Chart *chart, unsigned point, char text[POINT_TEXT]) {
   if (point >= chart->steps) {
     unsigned edge = chart->merged[chart->point_merged[point]].first;
-    return snprintf(text, LONGEST, "%c%u", is_turned(chart, edge) ? '^' : '|', edge);
+    return snprintf(text, POINT_TEXT, "%c%u", is_turned(chart, edge) ? '^' : '|', edge);
   }
-  return snprintf(text, LONGEST, "[%u %.*s]", point, (int)chart->step[point].name_len, (const char *)chart->step[point].name);
+  return snprintf(text, POINT_TEXT, "[%u %.*s]", point, (int)chart->step[point].name_len, (const char *)chart->step[point].name);
 }
 
 static void draw_row(FILE *out, const Chart *chart, unsigned row, const long *width, const long *x) {
-  char text[LONGEST];
+  char text[POINT_TEXT];
   long column = 0;
   fprintf(out, "%3u  ", row);
   for (unsigned i = chart->row_start[row]; i < chart->row_start[row + 1]; i++) {
@@ -29,7 +28,7 @@ static void draw_row(FILE *out, const Chart *chart, unsigned row, const long *wi
 }
 
 void draw_text(FILE *out, const Chart *chart) {
-  char text[LONGEST];
+  char text[POINT_TEXT];
   long width[YUVATONDRO_MAX_POINTS], x[YUVATONDRO_MAX_POINTS];
   for (unsigned i = 0; i < chart->points; i++) width[i] = UNITS * (long)point_text(chart, i, text);
   find_middles(chart, width, UNITS, x);

@@ -30,15 +30,17 @@ static uint64_t ask_stored(const char *program, Chart *chart, const uint8_t *tab
   return ask_chart(chart, shortest, shortest_len);
 }
 
+int place_chart(const char *program, Chart *chart) {
+  if (place_points(chart) && place_strokes(chart)) return 0;
+  fprintf(stderr, "%s: the lines that this program makes are not those of the library\n", program);
+  return TROUBLE;
+}
+
 int load_chart(const char *program, const char *path, Chart *chart, uint64_t *answer) {
   static uint8_t table[ROOM];
   size_t table_len = 0;
   int status = read_table(program, path, table, &table_len);
   if (status != 0) return status;
   *answer = ask_stored(program, chart, table, table_len);
-  if (chart->known == ORDER && !(place_points(chart) && place_strokes(chart))) {
-    fprintf(stderr, "%s: the lines that this program makes are not those of the library\n", program);
-    return TROUBLE;
-  }
-  return 0;
+  return chart->known == ORDER ? place_chart(program, chart) : 0;
 }

@@ -28,6 +28,10 @@ static const char *const sentences[] = {
     [YUVATONDRO_LARGE_CHART] =
         "the chart has more than # points, for which there are no x and no strokes; the picture of examples/ does without, or split the "
         "alignment",
+    [YUVATONDRO_BAD_ROW] =
+        "that row has no order to look for: it is row 0, which has none above it, or the chart does not have it, or it has more than # "
+        "points; choose another row",
+    [YUVATONDRO_MANY_TRIES] = "more than # tries; ask for fewer",
 };
 
 static unsigned limit_of(unsigned refusal) {
@@ -35,6 +39,8 @@ static unsigned limit_of(unsigned refusal) {
     case YUVATONDRO_MANY_STEPS: return YUVATONDRO_MAX_STEPS;
     case YUVATONDRO_MANY_EDGES: return YUVATONDRO_MAX_EDGES;
     case YUVATONDRO_LARGE_CHART: return YUVATONDRO_MAX_XS;
+    case YUVATONDRO_BAD_ROW: return YUVATONDRO_MAX_ROW_POINTS;
+    case YUVATONDRO_MANY_TRIES: return YUVATONDRO_MAX_TRIES;
     default: return YUVATONDRO_MAX_POINTS;
   }
 }
@@ -57,6 +63,8 @@ void explain_refusal(FILE *out, const char *program, const Chart *chart, uint64_
     unsigned step = yuvatondro_loop_step(answer);
     const Step *s = &chart->step[step];
     fprintf(out, "%s: the lowest step on such a loop is %u, %.*s\n", program, step, (int)s->name_len, (const char *)s->name);
+  } else if (refusal == YUVATONDRO_BAD_ROW) {
+    fprintf(out, "%s: this chart has %u row%s, numbered from 0\n", program, chart->rows, chart->rows == 1 ? "" : "s");
   } else if (refusal <= YUVATONDRO_SPARE || refusal == YUVATONDRO_BAD_FIRMNESS) {
     fprintf(out, "%s: 'tools/table read' on the same file tells the byte\n", program);
   }
