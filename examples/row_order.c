@@ -84,7 +84,7 @@ static void tell_worth(FILE *out, const RowOrder *r, int all_looked_at) {
   int stays = memcmp(r->found.point, r->present.point, r->points * sizeof *r->found.point) == 0;
   fprintf(out, "\n%s", stays ? "The present order is " : "The order found is ");
   if (r->found.above == r->floor)
-    fprintf(out, "best: it meets the floor, and no order of the row has fewer crossings with the row above.\n");
+    fprintf(out, "best: it meets the floor, so no order of the row has fewer crossings with the row above.\n");
   else if (all_looked_at)
     fprintf(out, "best: all orders of the row were looked at, and none has fewer crossings with the row above.\n");
   else

@@ -26,6 +26,17 @@ def read_lists(path):
     return int(re.search(r"(?m)^crossings (\d+)$", text)[1]), rows[0], rows[1] if len(rows) > 1 else None
 
 
+def read_row_order(path):
+    """Of what the example prints with --row: the row; its points in the present order and in the one found, each a step or, of a dummy, `|` with
+    the first edge of its line; and what the order found has of crossings: with the row above, with the row below if there is one, and in all."""
+    text = open(path).read()
+    word = re.compile(r"(?:\[(\d+) \S+\]|[|^](\d+))(?= |$)")
+    orders = [re.search(rf"(?m)^{which} +(\S.*)$", text)[1] for which in ("present", "found")]
+    points = [[int(step) if step else f"|{edge}" for step, edge in word.findall(order)] for order in orders]
+    crossings = re.search(r"(?m)^crossings .*\n((?:.*\d\n)*)", text)[1].splitlines()
+    return int(re.search(r"(?m)^row +(\d+)$", text)[1]), points, [int(line.split()[-1]) for line in crossings]
+
+
 def find_lines(ends, soft):
     """The numbers of the edges that each line stands for: those of the same ends and firmness, in the place of the first."""
     lines = {}
