@@ -6,8 +6,8 @@
  * first, and a message says so. chart.c has the calls. What the calls do not hand out, said.c reads: the edges, and the kinds of the steps,
  * which only the picture shows.
  *
- * With --row it prints, in place of the lists, the best order of that row that is found in so many tries, or else in the most that there may
- * be, and what it is worth; drawing and picture have the row in this order.
+ * With --row it prints, in place of the lists, the best order of that row that is found in so many tries, in the most there may be if none
+ * are named, and what it is worth; drawing and picture have the row in this order.
  *
  * Ends with status 0; with 1 if the table, the row or the tries are refused, after printing what is known; with 2 for trouble with the
  * arguments or files.

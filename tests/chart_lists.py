@@ -27,8 +27,8 @@ def read_lists(path):
 
 
 def read_row_order(path):
-    """Of what the example prints with --row: the row; its points in the present order and in the one found, each a step or, of a dummy, `|` with
-    the first edge of its line; and what the order found has of crossings: with the row above, with the row below if there is one, and in all."""
+    """Of what the example prints with --row: the row; its points in the present order and in the one found, each a step, or for a dummy `|`
+    with the first edge of its line; and the crossings of the order found: with the row above, with the row below if there is one, and all."""
     text = open(path).read()
     word = re.compile(r"(?:\[(\d+) \S+\]|[|^](\d+))(?= |$)")
     orders = [re.search(rf"(?m)^{which} +(\S.*)$", text)[1] for which in ("present", "found")]
