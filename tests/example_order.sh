@@ -6,6 +6,7 @@
 # this order, and is as without the option where that is the present one
 order() {
     show "$1" order.svg --row "$2" ${3:+--tries "$3"} >order.run
+    grep -q -x 'status 0' order.run || { echo "example: $1: no order of row $2"; cat order.run; exit 1; }
     cat order.run >>"$1.order.got"
     "$root/tests/picture" "$1.txt" order.svg "$1.got" order.run
     crossings=$(sed -n 's/^of the chart .* //p' order.run)
