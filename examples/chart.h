@@ -90,7 +90,7 @@ typedef struct {
   Segment segment[MAX_SEGMENTS];
   unsigned below[MAX_SEGMENTS], below_start[MAX_ROWS + 1];
 
-  /* known with ORDER, but for a chart of more points than these */
+  /* known with ORDER, but for a chart of more points than these, or with a row in another order than the library's */
   int has_xs;
   uint16_t x[YUVATONDRO_MAX_XS];
 
@@ -154,7 +154,7 @@ void find_middles(const Chart *chart, const long *width, long blank, long *middl
 void lay_out(const Chart *chart, const long *width, long blank, long *x);
 
 /* row_order.c: asks the library for the best order of a row in so many tries and puts that row of the chart in it; status and answer as of
- * load_chart. A chart with an order of its own has no x, and its strokes are made as for one that is too large for them. */
+ * load_chart. Where it is another than the present one, the chart has no x from then on, and strokes as if it were too large for them. */
 int order_row(const char *program, Chart *chart, size_t row, size_t tries, RowOrder *r, uint64_t *answer);
 void list_row_order(FILE *out, const Chart *chart, const RowOrder *r);
 

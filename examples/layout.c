@@ -1,5 +1,5 @@
-/* How far from the left each point is drawn where the library has no x, for charts of many points. The order within the rows is the
- * library's and is kept; only the distances are chosen here.
+/* How far from the left each point is drawn where the library has no x, for charts of many points and for those with a row in another order
+ * than the library's. The order within the rows is kept; only the distances are chosen here.
  *
  * Each row in turn is moved to where its points wish to be, down and up several times: a step wishes for the mean of the ends of its
  * segments, a dummy for the lane of its line, so that long lines are straight. Within a row the wishes of neighbours may collide: then

@@ -12,7 +12,7 @@ static uint64_t ask_order(const Chart *chart, size_t row, size_t tries, OrderedR
   return answer;
 }
 
-/* Whether of two lines the first is left of the second in the row of its upper end, and right of it in the next. */
+/* Whether of two segments the first is left of the second at their upper ends, and right of it at their lower ends. */
 static int crosses(const Chart *chart, const Segment *a, const Segment *b) {
   return chart->point_place[a->upper] < chart->point_place[b->upper] && chart->point_place[a->lower] > chart->point_place[b->lower];
 }

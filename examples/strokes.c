@@ -1,7 +1,8 @@
 /* Where a pen goes that draws the chart, and the corners of its points.
  *
- * The library has the strokes of every chart that has x. For a larger one they are made here in the same way and with the same measures:
- * the places are those of layout.c, neighbours in a row at least a column apart. So what draws need not know which it has. */
+ * The library has the strokes of every chart that has x. For a larger one, and for one with a row in another order than the library's, they
+ * are made here in the same way and with the same measures: the places are those of layout.c, neighbours in a row at least a column apart.
+ * So what draws need not know which it has. */
 #include "chart.h"
 
 /* In tenths of a millimetre, as whole numbers for layout.c. */
