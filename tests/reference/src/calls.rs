@@ -1,8 +1,9 @@
-//! The nine calls as a C caller meets them: packed answers, lent buffers.
+//! The ten calls as a C caller meets them: packed answers, lent buffers.
 
 use crate::chart::{draw_chart, Chart};
 use crate::records::{rows_of_records, Record};
 use crate::refusal::Refusal;
+use crate::row_order::{find_row_order, RowOrder};
 use crate::shortest::{said, shortest};
 use crate::soft::rows_of_table;
 use crate::strokes::{list_strokes, Corner, Stroke};
@@ -55,6 +56,12 @@ pub fn stroke_at(bytes: &[u8], index: usize) -> StrokeAnswer {
     hand_out_stroke(&strokes, index)
 }
 
+pub fn row_order(bytes: &[u8], row: usize, tries: usize, buffer: &mut [u16]) -> u64 {
+    let chart = read_table(bytes).and_then(|table| draw_chart(&table));
+    let order = chart.and_then(|chart| find_row_order(&chart, row, tries));
+    pack(hand_out_row_order(order.as_ref().map_err(|&refusal| refusal), buffer))
+}
+
 pub fn write(bytes: &[u8], buffer: &mut [u8]) -> u64 {
     write_read(bytes, read_table(bytes), buffer)
 }
@@ -99,6 +106,13 @@ pub fn hand_out_chart(chart: &Result<Chart, Refusal>, rows: &mut [u16], order: &
 pub fn hand_out_xs(xs: &Result<Vec<usize>, Refusal>, buffer: &mut [u16]) -> Result<u64, Refusal> {
     hand_out_rows(xs, buffer)?;
     Ok((xs.as_ref().map_or(0, Vec::len) as u64) << 8)
+}
+
+/// To the entries as rows are; then points, floor and crossings where a chart's word has points, total and crossings.
+pub fn hand_out_row_order(order: Result<&RowOrder, Refusal>, buffer: &mut [u16]) -> Result<u64, Refusal> {
+    let RowOrder { points, crossings, floor } = order?;
+    hand_out_rows(&Ok(points.clone()), buffer)?;
+    Ok(pack_chart(points.len(), *floor as u64, *crossings))
 }
 
 /// A word and the bits of two floats.

@@ -20,6 +20,9 @@ pub enum Refusal {
     BadFirmness,
     /// More points than a chart that gets x may have.
     LargeChart,
+    /// No row above it, no such row, or too many points in it.
+    BadRow,
+    TooManyTries,
 }
 
 impl Refusal {
@@ -41,6 +44,8 @@ impl Refusal {
             Refusal::NoSuchStep => 14,
             Refusal::BadFirmness => 15,
             Refusal::LargeChart => 16,
+            Refusal::BadRow => 17,
+            Refusal::TooManyTries => 18,
         }
     }
 
