@@ -6,7 +6,8 @@ use std::env;
 use std::path::Path;
 use std::process::Command;
 
-const CALLS: [&str; 9] = ["counts", "name", "rows", "records", "chart", "write", "convert", "xs", "stroke_at"];
+const CALLS: [&str; 10] =
+    ["counts", "name", "rows", "records", "chart", "write", "convert", "xs", "stroke_at", "row_order"];
 
 fn run(program: &str, arguments: &[String]) -> String {
     let output = Command::new(program).args(arguments).output().expect("the tool starts");

@@ -11,6 +11,7 @@ mod merged;
 mod old;
 mod points;
 mod records;
+mod row_orders;
 mod shortest;
 mod soft;
 mod spoiled;
@@ -64,6 +65,10 @@ pub const FAMILIES: &[Family] = &[
     fixed("no strokes", shapes::STEPS + 1, strokes::none),
     fixed("stroke counts", strokes::COUNTED, strokes::counts),
     fixed("tall strokes", strokes::TALL, strokes::tall),
+    fixed("refused row orders", 1, row_orders::refused),
+    fixed("row numbers", row_orders::TALL, row_orders::numbers),
+    fixed("all tries", row_orders::TRIED, row_orders::all_tries),
+    fixed("row widths", row_orders::WIDTHS, row_orders::widths),
     endless("tiny", 6000, graphs::tiny),
     endless("mixed firmness", 4000, soft::mixed),
     endless("all soft", 2000, soft::all_soft),
@@ -109,6 +114,13 @@ pub const FAMILIES: &[Family] = &[
     endless("stroke point limit", 120, strokes::near_limit),
     endless("wide strokes", 48, strokes::wide),
     endless("most strokes", 64, strokes::most),
+    endless("deciding tries", 1000, row_orders::deciding),
+    endless("loose row points", 600, row_orders::loose),
+    endless("below held rows", 400, row_orders::held),
+    endless("parallel in a row", 600, row_orders::parallel),
+    endless("dummies in a row", 200, row_orders::dummies),
+    endless("large row orders", 120, row_orders::large),
+    endless("every row", 600, row_orders::every_row),
     endless("tall", 200, tall::tall),
     endless("tall soft", 120, tall::tall_soft),
     endless("old limits", 200, old::within),

@@ -44,10 +44,20 @@ mod linked {
         pub fn yuvatondro_xs(table: *const u8, table_len: usize, xs: *mut u16, xs_len: usize) -> u64;
         #[cfg(host_stroke_at)]
         pub fn yuvatondro_stroke_at(table: *const u8, table_len: usize, index: usize) -> Stroke;
+        #[cfg(host_row_order)]
+        pub fn yuvatondro_row_order(
+            table: *const u8,
+            table_len: usize,
+            row: usize,
+            tries: usize,
+            order: *mut u16,
+            order_len: usize,
+        ) -> u64;
     }
 }
 
-pub const CALLS: [&str; 9] = ["counts", "name", "rows", "records", "chart", "write", "convert", "xs", "stroke_at"];
+pub const CALLS: [&str; 10] =
+    ["counts", "name", "rows", "records", "chart", "write", "convert", "xs", "stroke_at", "row_order"];
 pub const COUNTS: usize = 0;
 pub const NAME: usize = 1;
 pub const ROWS: usize = 2;
@@ -57,6 +67,7 @@ pub const WRITE: usize = 5;
 pub const CONVERT: usize = 6;
 pub const XS: usize = 7;
 pub const STROKE_AT: usize = 8;
+pub const ROW_ORDER: usize = 9;
 
 /// Some of the calls.
 pub type Calls = [bool; CALLS.len()];
@@ -72,6 +83,7 @@ pub fn exported() -> Calls {
         cfg!(host_convert),
         cfg!(host_xs),
         cfg!(host_stroke_at),
+        cfg!(host_row_order),
     ]
 }
 
@@ -154,5 +166,13 @@ pub fn stroke_at(table: Bytes, index: usize) -> StrokeAnswer {
         return StrokeAnswer { answer, corner };
     }
     #[cfg(not(host_stroke_at))]
+    unreachable!()
+}
+
+#[allow(unused_variables)]
+pub fn row_order(table: Bytes, row: usize, tries: usize, order: EntriesMut) -> u64 {
+    #[cfg(host_row_order)]
+    return unsafe { linked::yuvatondro_row_order(table.0, table.1, row, tries, order.0, order.1) };
+    #[cfg(not(host_row_order))]
     unreachable!()
 }

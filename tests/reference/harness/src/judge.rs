@@ -4,6 +4,7 @@ mod kept;
 mod lists;
 mod placed;
 mod printed;
+mod row_orders;
 mod strokes;
 mod written;
 mod xs;
@@ -21,6 +22,8 @@ use crate::program::Programs;
 use crate::shapes::STEPS;
 use crate::tally::Tally;
 use crate::watch;
+
+pub use row_orders::{points_of, Ask};
 
 /// Differences printed in full.
 const SHOWN: u64 = 10;

@@ -3,8 +3,8 @@
 use crate::host::{exported, Calls, CALLS};
 use crate::program::{Program, Programs};
 
-const USAGE: &str = "harness [--calls counts,name,rows,records,chart,write,convert,xs,stroke_at] [--seed N]
-        [--seconds K] [--family NAME] [--group N] [--patience S] [--stop-at-first] [--program PATH]
+const USAGE: &str = "harness [--calls counts,name,rows,records,chart,write,convert,xs,stroke_at,row_order]
+        [--seed N] [--seconds K] [--family NAME] [--group N] [--patience S] [--stop-at-first] [--program PATH]
         [--records-program PATH] [--convert-program PATH] [--every N] [--null-when-empty] [--share N]";
 
 pub struct Options {

@@ -8,12 +8,13 @@ use reference::forces::Piece;
 use reference::order::{positions, PASSES};
 use reference::points::MAX_POINTS;
 use reference::refusal::Refusal;
+use reference::row_order::{orders_of, Numbered};
 use reference::strokes::Corner;
 use reference::xs::pieces_of;
 
 use crate::host::{CALLS, CHART, CONVERT, RECORDS, WRITE};
 
-const REFUSALS: usize = 16;
+const REFUSALS: usize = 18;
 /// The refusals that the program `chart` gives, and those of the program `convert`.
 const LISTED: [usize; 13] = [1, 2, 3, 4, 5, 6, 7, 8, 9, 10, 11, 12, 15];
 const CONVERTED: [usize; 11] = [1, 2, 3, 4, 5, 6, 7, 8, 9, 10, 15];
@@ -37,6 +38,7 @@ pub struct Tally {
     tall: (u64, usize),
     x: XTally,
     strokes: StrokeTally,
+    row_orders: RowTally,
     /// By the call, tables written, and those of them that came in more bytes.
     written: [(u64, u64); CALLS.len()],
     /// Time spent in each call.
@@ -69,6 +71,22 @@ struct StrokeTally {
     drawings: u64,
 }
 
+/// What was found in the call for the order of a row.
+#[derive(Clone, Copy, Default)]
+struct RowTally {
+    /// Orders told; those that are not the row as it is, and those found among all that there are; of all orders and of these,
+    /// those that do not meet their floor.
+    orders: u64,
+    moved: u64,
+    of_all: u64,
+    above_floor: [u64; 2],
+    /// The most crossings told, and how many orders at most come before one.
+    crossings: usize,
+    latest: usize,
+    /// Rows whose orders with more and more tries were held to the chart and to each other.
+    held: u64,
+}
+
 impl Tally {
     pub fn new() -> Tally {
         Tally {
@@ -83,6 +101,7 @@ impl Tally {
             tall: (0, 0),
             x: XTally::default(),
             strokes: StrokeTally::default(),
+            row_orders: RowTally::default(),
             written: [(0, 0); CALLS.len()],
             spent: [Duration::ZERO; CALLS.len()],
             slowest: [(Duration::ZERO, "", 0); CALLS.len()],
@@ -139,6 +158,22 @@ impl Tally {
         self.strokes.drawings += 1;
     }
 
+    pub fn note_row_order(&mut self, present: &[usize], (order, number): &Numbered, tries: usize) {
+        let noted = &mut self.row_orders;
+        noted.orders += 1;
+        noted.moved += u64::from(order.points != present);
+        let [of_all, above] = [orders_of(present.len()) <= tries + 1, order.crossings > order.floor];
+        noted.of_all += u64::from(of_all);
+        noted.above_floor[0] += u64::from(above);
+        noted.above_floor[1] += u64::from(above && of_all);
+        noted.crossings = noted.crossings.max(order.crossings);
+        noted.latest = noted.latest.max(*number);
+    }
+
+    pub fn note_held_row(&mut self) {
+        self.row_orders.held += 1;
+    }
+
     pub fn note_written(&mut self, call: usize, table_len: usize, shortest: usize) {
         self.written[call].0 += 1;
         self.written[call].1 += u64::from(shortest < table_len);
@@ -180,6 +215,7 @@ impl Tally {
         let [x, y] = [farthest.x, farthest.y].map(f32::from_bits);
         println!("strokes: {moves} moves, {lines} lines, {none} times none; largest index of one {largest}");
         println!("charts drawn whole: {drawings}; largest x of a corner {x} mm, largest y {y} mm");
+        self.report_row_orders();
         for (call, what) in [(WRITE, "written"), (CONVERT, "converted")] {
             let (tables, shorter) = self.written[call];
             println!("tables {what}: {tables}, of them shorter than they came: {shorter}");
@@ -187,6 +223,14 @@ impl Tally {
         let rate = self.cases as f64 / took.as_secs_f64();
         println!("{:.1} s, {rate:.0} cases a second", took.as_secs_f64());
         println!("{} cases, {} differences", self.cases, self.differences);
+    }
+
+    fn report_row_orders(&self) {
+        let RowTally { orders, moved, of_all, above_floor: [above, unmet], crossings, latest, held } = self.row_orders;
+        println!("orders of a row: {orders}, not the row as it is: {moved}, above their floor: {above}");
+        println!("orders that are the best of all: {of_all}, of them above their floor: {unmet}");
+        println!("most crossings of a row: {crossings}, most orders before one that is told: {latest}");
+        println!("rows held to the chart with more and more tries: {held}");
     }
 
     fn report_program(&self, call: usize, outputs: &str, accepted: &str, refusals: &[usize]) {

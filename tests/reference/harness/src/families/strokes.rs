@@ -14,18 +14,18 @@ use crate::families::xs::wide_between;
 use crate::judge::Judge;
 use crate::shapes::{self, EDGES, STEPS};
 
-const GAP: usize = *LIMITS.gap.end() as usize;
+pub const GAP: usize = *LIMITS.gap.end() as usize;
 
-fn edge(from: usize, to: usize, gap: usize) -> TableEdge {
+pub fn edge(from: usize, to: usize, gap: usize) -> TableEdge {
     TableEdge { edge: Edge { from, to, gap: gap as u32, weight: 1 }, soft: false }
 }
 
-fn soft(edge: TableEdge) -> TableEdge {
+pub fn soft(edge: TableEdge) -> TableEdge {
     TableEdge { soft: true, ..edge }
 }
 
 /// Between the same two steps: a must line, a soft one along it, and one against it, which is turned.
-fn beside(must: TableEdge) -> [TableEdge; 3] {
+pub fn beside(must: TableEdge) -> [TableEdge; 3] {
     [must, soft(must), soft(TableEdge { edge: turn(must.edge), ..must })]
 }
 
@@ -86,6 +86,14 @@ const UNREAD: [&[u8]; 9] = [
 
 /// Every refusal that the call has, whatever the index.
 pub fn refused(judge: &mut Judge, random: &mut Random, _: usize) {
+    for bytes in refused_tables(random) {
+        judge.judge_indices(&bytes, far_indices());
+    }
+}
+
+/// A table for each refusal of a whole chart, and charts of the most points that get x, of the most that there may be, and of
+/// one more each.
+pub fn refused_tables(random: &mut Random) -> Vec<Vec<u8>> {
     let mut tables: Vec<Vec<u8>> = vec![Vec::new(), vec![3]];
     tables.extend([1, 2].into_iter().flat_map(|edition| UNREAD.map(|rest| [&[edition], rest].concat())));
     let bad_firmness = Draft { firmness: Some(vec![2]), ..draft(random, 2, vec![edge(0, 1, 1).edge]) };
@@ -95,9 +103,7 @@ pub fn refused(judge: &mut Judge, random: &mut Random, _: usize) {
     tables.push(write_table(&draft(random, STEPS, looped.iter().map(|edge| edge.edge).collect())));
     tables.extend([MOST_POINTS, MOST_POINTS + 1].map(|points| write_table(&long_lines(random, 15, 1, points))));
     tables.extend([MAX_POINTS, MAX_POINTS + 1].map(|points| write_table(&long_lines(random, 64, 3, points))));
-    for bytes in tables {
-        judge.judge_indices(&bytes, far_indices());
-    }
+    tables
 }
 
 fn chain(links: usize) -> Vec<TableEdge> {
@@ -163,8 +169,8 @@ pub fn wide(judge: &mut Judge, random: &mut Random, _: usize) {
     judge.judge_drawing(&write_table(&draft_of(random, steps, &edges)));
 }
 
-/// Few steps with many edges between them, in both directions and of both firmnesses, some of them next to equal ones; by turns
-/// in edition 1.
+/// Few steps with many edges between them, in both directions and of both firmnesses, some of them next to equal ones; by
+/// turns in edition 1.
 pub fn joined(judge: &mut Judge, random: &mut Random, group: usize) {
     let steps = random.between(2, 5);
     let count = random.between(2, random.clone().pick(&[6, 12, 40]));

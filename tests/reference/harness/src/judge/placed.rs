@@ -8,7 +8,7 @@ use reference::table::read_table;
 
 use super::xs::xs_of;
 use super::Judge;
-use crate::host::{CHART, ROWS, STROKE_AT, XS};
+use crate::host::{CHART, ROWS, ROW_ORDER, STROKE_AT, XS};
 
 impl Judge {
     /// The calls on a whole chart and the program alone, for tables that are new in the order of their points only.
@@ -20,14 +20,14 @@ impl Judge {
     }
 
     pub(super) fn wants_chart(&self) -> bool {
-        self.wanted[CHART] || self.wants_xs()
+        self.wanted[CHART] || self.wanted[ROW_ORDER] || self.wants_xs()
     }
 
     fn wants_xs(&self) -> bool {
         self.wanted[XS] || self.wanted[STROKE_AT]
     }
 
-    /// Rows, chart, x and strokes, whose rows are worked out once.
+    /// Rows, chart, x, strokes and orders of a row, whose rows are worked out once.
     pub(super) fn judge_placed(&mut self, bytes: &[u8], placed: Result<Placed, Refusal>) {
         if self.wanted[ROWS] {
             let rows = rows_of(&placed);
@@ -46,15 +46,17 @@ impl Judge {
         if self.wanted[CHART] {
             self.judge_chart(bytes, chart);
         }
-        if !self.wants_xs() {
-            return;
+        if self.wants_xs() {
+            let xs = xs_of(chart);
+            if self.wanted[XS] {
+                self.judge_xs(bytes, chart, &xs);
+            }
+            if self.wanted[STROKE_AT] {
+                self.judge_strokes(bytes, chart, &xs);
+            }
         }
-        let xs = xs_of(chart);
-        if self.wanted[XS] {
-            self.judge_xs(bytes, chart, &xs);
-        }
-        if self.wanted[STROKE_AT] {
-            self.judge_strokes(bytes, chart, &xs);
+        if self.wanted[ROW_ORDER] {
+            self.judge_row_orders(bytes, chart);
         }
     }
 
@@ -71,7 +73,8 @@ impl Judge {
         }
     }
 
-    /// Rows and chart with every pair of these buffer lengths, as differences from what is needed; x and writing with each.
+    /// Rows and chart with every pair of these buffer lengths, as differences from what is needed; x, orders of a
+    /// row and writing with each.
     pub fn judge_buffers(&mut self, bytes: &[u8], offsets: &[isize]) {
         self.judge_written_buffers(bytes, offsets);
         let placed = read_table(bytes).and_then(|table| place_table(&table));
@@ -81,6 +84,9 @@ impl Judge {
         let needed = rows.as_ref().map_or(0, Vec::len);
         if self.wanted[XS] {
             self.judge_xs_buffers(bytes, &chart, offsets);
+        }
+        if self.wanted[ROW_ORDER] {
+            self.judge_row_buffers(bytes, &chart, offsets);
         }
         for &more_rows in offsets {
             let rows_len = needed.saturating_add_signed(more_rows);

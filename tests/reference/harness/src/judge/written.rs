@@ -8,7 +8,7 @@ use reference::shortest::{said, shortest, Said};
 use reference::table::{read_stored, read_table, Table};
 
 use super::{answer_fault, buffer_fault, hex, Judge};
-use crate::host::{self, CALLS, CHART, CONVERT, COUNTS, NAME, RECORDS, ROWS, STROKE_AT, WRITE, XS};
+use crate::host::{self, CALLS, CHART, CONVERT, COUNTS, NAME, RECORDS, ROWS, ROW_ORDER, STROKE_AT, WRITE, XS};
 use crate::shapes::STEPS;
 use crate::watch;
 
@@ -117,6 +117,7 @@ fn call_again(call: usize, bytes: &[u8]) -> (u64, Vec<u8>) {
         CHART => host::chart(table, rows, order),
         XS => host::xs(table, order),
         STROKE_AT => host::stroke_at(table, 0).answer,
+        ROW_ORDER => host::row_order(table, 1, 1, order),
         _ => write_by(call, table, out),
     });
     (answer & 0xff, written)
