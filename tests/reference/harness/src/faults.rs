@@ -39,7 +39,7 @@ pub fn run(only: &str) -> i32 {
 /// Starts of the names of variants that only the chart call can show.
 const DRAWN: [&str; 9] = ["points", "start", "means", "ties", "loose", "passes", "best", "crossings", "merged"];
 
-/// Those that give points other numbers, which two calls show.
+/// Those that give points other numbers, which three calls show.
 const NUMBERED: [&str; 4] = ["points-by-row", "points-rising-up", "points-turned-up", "points-turned-last"];
 
 /// The options of the runs that have to catch a variant. Three calls hand out rows, and wrong rows are to be caught in
@@ -69,8 +69,11 @@ fn trials(fault: &str) -> Vec<Vec<&'static str>> {
     if fault.starts_with("stroke") {
         return each_alone(&["stroke_at"]);
     }
+    if fault.starts_with("row-") {
+        return each_alone(&["row_order"]);
+    }
     if NUMBERED.contains(&fault) {
-        return each_alone(&["chart", "xs"]);
+        return each_alone(&["chart", "xs", "row_order"]);
     }
     if fault.starts_with("soft") {
         return each_alone(&["rows", "chart"]);

@@ -80,6 +80,8 @@ struct RowTally {
     moved: u64,
     of_all: u64,
     above_floor: [u64; 2],
+    /// Those that are the last of all there are.
+    last: u64,
     /// The most crossings told, and how many orders at most come before one.
     crossings: usize,
     latest: usize,
@@ -166,6 +168,7 @@ impl Tally {
         noted.of_all += u64::from(of_all);
         noted.above_floor[0] += u64::from(above);
         noted.above_floor[1] += u64::from(above && of_all);
+        noted.last += u64::from(*number > 0 && number + 1 == orders_of(present.len()));
         noted.crossings = noted.crossings.max(order.crossings);
         noted.latest = noted.latest.max(*number);
     }
@@ -226,9 +229,10 @@ impl Tally {
     }
 
     fn report_row_orders(&self) {
-        let RowTally { orders, moved, of_all, above_floor: [above, unmet], crossings, latest, held } = self.row_orders;
+        let RowTally { orders, moved, of_all, above_floor: [above, unmet], last, .. } = self.row_orders;
+        let RowTally { crossings, latest, held, .. } = self.row_orders;
         println!("orders of a row: {orders}, not the row as it is: {moved}, above their floor: {above}");
-        println!("orders that are the best of all: {of_all}, of them above their floor: {unmet}");
+        println!("orders that are the best of all: {of_all}, of them above their floor: {unmet}, the last one: {last}");
         println!("most crossings of a row: {crossings}, most orders before one that is told: {latest}");
         println!("rows held to the chart with more and more tries: {held}");
     }

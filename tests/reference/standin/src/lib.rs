@@ -2,6 +2,7 @@
 //! STANDIN_FAULT chooses a deliberately wrong variant, so that the comparison itself can be tried.
 
 mod answers;
+mod answers_row_orders;
 mod answers_strokes;
 mod answers_xs;
 pub mod fault;
@@ -10,6 +11,8 @@ mod wrong_entries;
 mod wrong_forms;
 mod wrong_merged;
 mod wrong_order;
+mod wrong_row_orders;
+mod wrong_row_pieces;
 mod wrong_rows;
 mod wrong_soft;
 mod wrong_spelling;
@@ -82,4 +85,18 @@ pub unsafe extern "C" fn yuvatondro_stroke_at(
     index: usize,
 ) -> answers_strokes::Stroke {
     answers_strokes::stroke_at(unsafe { from_raw_parts(table, table_len) }, index)
+}
+
+#[no_mangle]
+pub unsafe extern "C" fn yuvatondro_row_order(
+    table: *const u8,
+    table_len: usize,
+    row: usize,
+    tries: usize,
+    order: *mut u16,
+    order_len: usize,
+) -> u64 {
+    // Where there is no entry the pointer is not followed, and may be null.
+    let order: &mut [u16] = if order_len == 0 { &mut [] } else { unsafe { from_raw_parts_mut(order, order_len) } };
+    answers_row_orders::row_order(unsafe { from_raw_parts(table, table_len) }, row, tries, order)
 }

@@ -17,7 +17,7 @@ use crate::families::strokes::{beside, edge, refused_tables, soft, GAP};
 use crate::judge::{points_of, Ask, Judge};
 use crate::shapes::{EDGES, STEPS};
 
-/// What is put together, and what the call makes of it.
+/// A table and its chart.
 struct Drawn {
     bytes: Vec<u8>,
     chart: Chart,
@@ -33,7 +33,7 @@ fn draw_edges(random: &mut Random, steps: usize, mut edges: Vec<TableEdge>) -> D
     draw(write_table(&draft_of(random, steps, &edges))).expect("a chart")
 }
 
-/// Numbers of tries at the limits, and the largest of fewer bits than there are.
+/// Numbers of tries at the limits, and those that fewer bits would take for 0 or for others.
 const TRIES: [usize; 8] = [0, 1, MOST_TRIES - 1, MOST_TRIES, MOST_TRIES + 1, 1 << 16, 1 << 32, usize::MAX];
 
 /// Every refusal that the call has, whatever the row, the tries and the buffer.
@@ -157,7 +157,7 @@ fn pass_row(random: &mut Random, width: usize) -> Drawn {
     let mut pairs: Vec<(usize, usize)> = (0..side * side).map(|at| (at / side, side + at % side)).collect();
     random.shuffle(&mut pairs);
     let must = pairs.iter().map(|&(from, to)| edge(from, to, 2));
-    // Behind the must lines, so that those against them are turned.
+    // Taken last, so that each has its must line, and those against it are turned.
     let others = must.clone().flat_map(|must| beside(must).into_iter().skip(1));
     let edges = must.clone().chain(others).take(width).collect();
     draw_edges(random, 2 * side, edges)
@@ -216,14 +216,14 @@ fn judge_rows(judge: &mut Judge, random: &mut Random, drawn: &Drawn) {
 const ROUND: [[usize; 3]; 3] = [[1, 3, 8], [0, 5, 7], [2, 4, 6]];
 
 /// A row held in its order by a zigzag of lines from the row above it, three side by side each; and below it a row with any
-/// ends there, by turns one of which no order meets the floor.
+/// ends there, by turns one of which no order meets the floor, and one that is best turned about.
 pub fn held(judge: &mut Judge, random: &mut Random, group: usize) {
     let width = random.between(ROUND.len() * 3, 16);
+    let any = |random: &mut Random, most: usize| (0..random.between(1, most)).map(|_| random.below(width)).collect();
     let ends: Vec<Vec<usize>> = match group % 3 {
-        0 => ROUND.map(Vec::from).into_iter().chain((0..random.below(4)).map(|_| vec![random.below(width)])).collect(),
-        _ => (0..random.between(3, 8))
-            .map(|_| (0..random.between(1, 6)).map(|_| random.below(width)).collect())
-            .collect(),
+        0 => ROUND.map(Vec::from).into_iter().chain((0..random.below(4)).map(|_| any(random, 1))).collect(),
+        1 => turned_about(random, width),
+        _ => (0..random.between(2, 8)).map(|_| any(random, 6)).collect(),
     };
     let upper = |at: usize| width + 1 + at;
     let zigzag = (0..width).flat_map(|at| [edge(at, upper(at), 1), edge(at + 1, upper(at), 1)].map(beside).concat());
@@ -233,6 +233,23 @@ pub fn held(judge: &mut Judge, random: &mut Random, group: usize) {
     let edges = zigzag.chain(below).collect();
     let drawn = draw_edges(random, lower + ends.len(), edges);
     judge_rows(judge, random, &drawn);
+}
+
+/// Of up to five points the ends in a row, each further right in the mean than those before it by one or two ends far from the
+/// others, without which it would be further left.
+fn turned_about(random: &mut Random, width: usize) -> Vec<Vec<usize>> {
+    let points = random.between(2, 5);
+    let ends = |at: usize| {
+        let near = points - 1 - at;
+        let far = (0..at).map(|back| width - 1 - back % 3);
+        [near, near + 1].into_iter().chain(far).collect()
+    };
+    let mut all: Vec<Vec<usize>> = (0..points).map(ends).collect();
+    if random.one_in(2) {
+        let at = random.below(points);
+        all[at].push(random.below(width));
+    }
+    all
 }
 
 /// Few steps with many lines between the same two, of must edges, of soft ones and of turned ones, many of them of several
