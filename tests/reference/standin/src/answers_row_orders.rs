@@ -69,8 +69,6 @@ fn taken_row(row: usize) -> usize {
 
 fn taken_tries(tries: usize) -> usize {
     match () {
-        _ if on("row-tries-8-bits") => tries & 0xff,
-        _ if on("row-tries-15-bits") => tries & 0x7fff,
         _ if on("row-tries-16-bits") => tries & 0xffff,
         _ if on("row-tries-32-bits") => tries & 0xffff_ffff,
         _ if on("row-18-left-out") => tries.min(MOST_TRIES),

@@ -60,6 +60,8 @@ fn how_many(points: usize, tries: usize) -> usize {
         _ if on("row-tries-with-present") => tries.max(1),
         _ if on("row-one-more") => tries + 2,
         _ if on("row-tries-doubled") => 2 * tries + 1,
+        _ if on("row-tries-8-bits") => (tries & 0xff) + 1,
+        _ if on("row-tries-15-bits") => (tries & 0x7fff) + 1,
         _ if on("row-last-left-out") => (tries + 1).min(orders_of(points).saturating_sub(1).max(1)),
         _ if on("row-all-16-bits") => (tries + 1).min(wrapped.max(1)),
         _ if on("row-all-orders") && points <= 8 => orders_of(points),
