@@ -159,7 +159,7 @@ met-extend {y} edges b v h k (one q al) (there {c = c} {cs = cs} n l) =
 
 -- ---- the placements: each has its length and keeps the edges, and the rows ys lead them
 
-all-extend : {cs : List (List ℕ)} (edges : List Edge) (b k : ℕ) → All (λ c. length c ≡ k) cs
+all-extend : (edges : List Edge) (b k : ℕ) {cs : List (List ℕ)} → All (λ c. length c ≡ k) cs
     → All (λ c. (length c ≡ suc k) × (keeps edges c ≡ true)) (extend edges b cs)
 unfolding extend
 all-extend edges b k none = none

@@ -1,4 +1,6 @@
 // Edges between numbered nodes: the vocabulary that the reader, the solver and the row finder share.
+#![tactic(auto)]
+
 ghost use Rattle.std.specs.Prelude.{◌≡◌};
 ghost use Rattle.graph.specs.Directed.{own_edge, directed};
 
