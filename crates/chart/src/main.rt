@@ -1,4 +1,6 @@
 // Reads a table on standard input and prints its chart, or the line of its refusal.
+#![tactic(auto)]
+
 use libc::{STDIN_FILENO, STDOUT_FILENO};
 use listing::limits::MAX_LISTING;
 use listing::{ListingAnswer, write_listing};

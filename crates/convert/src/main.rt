@@ -1,4 +1,6 @@
 // Reads a stored table on standard input and writes its shortest form, or the line of its refusal.
+#![tactic(auto)]
+
 use converting::convert_table;
 use libc::{STDIN_FILENO, STDOUT_FILENO};
 use table::limits::MAX_INPUT;

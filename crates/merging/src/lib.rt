@@ -1,5 +1,7 @@
 // Repeated edges: those with equal ends and equal firmness are drawn as one line, here a merged edge (the `lines` of other crates are those
 // of a listing). Rows are found without it.
+#![tactic(auto)]
+
 mod slots;
 
 ghost use Rattle.std.specs.Prelude.{◌≡◌, ◌+◌, ◌≤◌, ◌<◌, max, take, replicate};

@@ -1,4 +1,6 @@
 // Why a call is turned down, and whether it is: what the layers share of their answers.
+#![tactic(auto)]
+
 ghost use Rattle.std.specs.Prelude.{◌≡◌};
 ghost use Rattle.outcome.specs.Refusal.{number_of};
 

@@ -1,4 +1,6 @@
 // The orders of some points, one after another as they stand in a dictionary: from one to the next, in place.
+#![tactic(auto)]
+
 ghost use Rattle.std.specs.Prelude.{◌<◌, length, get_or};
 ghost use Rattle.permutations.specs.Places.{Pivot, PivotIs, RunIs, Advanced};
 

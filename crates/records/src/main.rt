@@ -1,5 +1,7 @@
 // Reads a step count and edges on standard input, lends the edges to the row finder as a slice of records and prints the rows, or the
 // line of the refusal.
+#![tactic(auto)]
+
 mod input;
 mod lend;
 
