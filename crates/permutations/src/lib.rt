@@ -47,6 +47,5 @@ pub fn advance(p: &mut [u8], r: usize)
     let j = find_larger(p, r, x);
     p[r - 1] = p[j];
     p[j] = x;
-    let n = p.len();
-    bytes::reverse(p, r, n);
+    p[r..].reverse();
 }
