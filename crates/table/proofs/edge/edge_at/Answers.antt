@@ -1,7 +1,6 @@
 -- `edge::edge_at` meets its contract: two ends, then the rest, as in `edge_at`.
 use Rattle.table.specs.Table.{edge_at}
-use mathlib.Core.Path.{sym, ap, ◌∙◌}
-use Rattle.table.specs.Number.{number_read}
+use mathlib.Core.Path.{sym}
 use Rattle.table.proofs.ThenLaws.{then-fault, then-got}
 use Rattle.table.proofs.edge.edge_at.Goals as goal
 

@@ -1,7 +1,6 @@
 -- `edge::edge_between` meets its contract: each return is one case of `edge_between`.
-use mathlib.Core.Path.{refl, sym, ap, ◌∙◌}
+use mathlib.Core.Path.{refl, sym}
 use Rattle.table.specs.Table.{edge_between}
-use Rattle.table.specs.Number.{number_read}
 use Rattle.table.proofs.ThenLaws.{then-fault, then-got}
 use Rattle.table.proofs.edge.edge_between.Goals as goal
 

@@ -1,8 +1,7 @@
 -- `edge::end_at` meets its contract: the tests on the number are those of `end_at`.
-use mathlib.Core.Path.{sym, ap, ◌∙◌}
+use mathlib.Core.Path.{sym, ap}
 use borrow.Author.Tests.{lt-ltb, le-ltb, eq-eqb, ne_eqb}
 use Rattle.table.specs.Table.{end_at}
-use Rattle.table.specs.Number.{number_read}
 use mathlib.Core.Bool.{not}
 use Rattle.table.proofs.ThenLaws.{then-fault, then-got, judge-no, judge-yes, and_yes, and_no, and-not}
 use Rattle.table.proofs.edge.end_at.Goals as goal

@@ -5,10 +5,8 @@ use mathlib.Core.Path.{sym, ◌∙◌}
 use Prim.Native.Nat.{ℕ, ◌+◌, ◌-◌, ◌*◌}
 use mir.Syntax.{w8, w64}
 use mir.Val.{Fits}
-use mir.Facts.{Fits-8_64, Fits-sub}
 use Rattle.buffers.proofs.IndexLaws.{more, few}
 use Rattle.table.proofs.NumberLaws as laws
-use borrow.Author.Rules.{rules}
 use Rattle.table.proofs.number.number_at.Goals as goal
 
 low-group : (a : ℕ) → Fits w8 a → Fits w64 (a * 0x80)

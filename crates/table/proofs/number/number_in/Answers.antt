@@ -1,7 +1,7 @@
 -- `number::number_in` meets its contract: the tests on the value are those of `number_in`.
 use borrow.Author.Tests.{lt-leb, le-leb}
-use mathlib.Core.Path.{sym, ap, ◌∙◌}
-use Rattle.table.specs.Number.{number_in, number_read}
+use mathlib.Core.Path.{sym}
+use Rattle.table.specs.Number.{number_in}
 use Rattle.table.proofs.ThenLaws.{then-fault, then-got, judge-no, judge-yes, and_yes, and_no, and-not}
 use Rattle.table.proofs.number.number_in.Goals as goal
 

@@ -1,6 +1,5 @@
 -- `step::adjust_at` meets its contract: what the number gives is what `adjust_at` gives.
-use mathlib.Core.Path.{refl, sym, ap, ◌∙◌}
-use Rattle.table.specs.Number.{number_read}
+use mathlib.Core.Path.{refl, sym}
 use Rattle.table.specs.Table.{adjust_at}
 use Rattle.table.proofs.ThenLaws.{then-fault, then-got}
 use Rattle.table.proofs.step.adjust_at.Goals as goal

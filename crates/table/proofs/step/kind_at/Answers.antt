@@ -1,8 +1,7 @@
 -- `step::kind_at` meets its contract: each return is one case of `kind_at`.
 use borrow.Author.Tests.{eq-eqb, ne_eqb}
-use mathlib.Core.Path.{sym, ap, ◌∙◌}
+use mathlib.Core.Path.{sym, ◌∙◌}
 use Rattle.table.specs.Table.{kind_at}
-use Rattle.table.specs.Number.{number_read}
 use Rattle.table.proofs.ThenLaws.{then-fault, then-got, cond_yes, cond_no}
 use Rattle.table.proofs.step.kind_at.Goals as goal
 

@@ -1,11 +1,9 @@
-use mathlib.Core.Path.{◌≡◌, sym}
-use Prim.Native.Nat.{◌-◌, ◌≤◌, zero-le}
+use mathlib.Core.Path.{sym}
+use Prim.Native.Nat.{zero-le}
 use native.Mathlib.Nat.{le_antisymm}
-use lib.Dec.{lit≤}
-use Rattle.table.specs.Number.{many, counted}
-use Rattle.table.specs.Table.{name_byte_at, name_at}
-use Rattle.buffers.proofs.IndexLaws.{next_le, next_fits, nearer, near}
-use Rattle.table.proofs.ManyLaws.{after, counted_start, counted_next, counted-fault, counted-end}
+use Rattle.table.specs.Table.{name_at}
+use Rattle.buffers.proofs.IndexLaws.{next_le}
+use Rattle.table.proofs.ManyLaws.{counted_start, counted_next, counted-fault, counted-end}
 use Rattle.table.proofs.NameLaws as byte
 use Rattle.table.proofs.step.name_at.Goals as goal
 

@@ -1,13 +1,9 @@
 -- `step::name_at` meets its contract: the loop has passed i bytes of the name, and the whole is those and what is left from here.
-use mathlib.Core.Path.{◌≡◌, sym}
-use Prim.Native.Nat.{◌-◌, ◌≤◌, zero-le}
-use native.Mathlib.Nat.{le_antisymm}
-use lib.Dec.{lit≤}
+use mathlib.Core.Path.{◌≡◌}
+use Prim.Native.Nat.{◌-◌, ◌≤◌}
 use Rattle.table.specs.Number.{many, counted}
 use Rattle.table.specs.Table.{name_byte_at, name_at}
-use Rattle.buffers.proofs.IndexLaws.{next_le, next_fits, nearer, near}
-use Rattle.table.proofs.ManyLaws.{after, counted_start, counted_next, counted-fault, counted-end}
-use Rattle.table.proofs.NameLaws as byte
+use Rattle.table.proofs.ManyLaws.{after}
 use Rattle.table.proofs.step.name_at.Given as goal
 
 abbrev pub invariant-loop-i : goal.invariant-loop-i

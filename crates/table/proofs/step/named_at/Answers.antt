@@ -1,7 +1,6 @@
 -- `step::named_at` meets its contract: each return is one case of `named_at`.
-use mathlib.Core.Path.{refl, sym, ap, ◌∙◌}
+use mathlib.Core.Path.{refl, sym}
 use Rattle.table.specs.Table.{named_at}
-use Rattle.table.specs.Number.{number_read}
 use Rattle.table.proofs.ThenLaws.{then-fault, then-got}
 use Rattle.table.proofs.step.named_at.Goals as goal
 

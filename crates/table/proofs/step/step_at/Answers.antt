@@ -1,7 +1,6 @@
 -- `step::step_at` meets its contract: a kind, then its name, as in `step_at`.
-use mathlib.Core.Path.{sym, ap, ◌∙◌}
+use mathlib.Core.Path.{sym}
 use Rattle.table.specs.Table.{step_at}
-use Rattle.table.specs.Reads.{kind_read}
 use Rattle.table.proofs.ThenLaws.{then-fault, then-got}
 use Rattle.table.proofs.step.step_at.Goals as goal
 

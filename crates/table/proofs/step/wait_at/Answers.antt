@@ -1,7 +1,6 @@
 -- `step::wait_at` meets its contract: what the number gives is what `wait_at` gives.
-use mathlib.Core.Path.{refl, sym, ap, ◌∙◌}
+use mathlib.Core.Path.{refl, sym}
 use Rattle.table.specs.Table.{wait_at}
-use Rattle.table.specs.Number.{number_read}
 use Rattle.table.proofs.ThenLaws.{then-fault, then-got}
 use Rattle.table.proofs.step.wait_at.Goals as goal
 
