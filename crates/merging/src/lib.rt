@@ -15,7 +15,7 @@ use graph::{Edge, TableEdge, direct};
 use table::limits::MAX_EDGES;
 
 // Edges that are drawn as one: their ends in the table and their firmness, the largest gap, the weights added, and the number of the first.
-#[derive(Drop)]
+#[derive(Clone, Copy)]
 pub struct MergedEdge {
     pub from: u8,
     pub to: u8,
