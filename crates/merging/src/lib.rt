@@ -26,7 +26,7 @@ pub struct MergedEdge {
 }
 
 // The first `count` entries of the list are in use, and the others are blank.
-#[derive(Drop)]
+#[derive(Clone, Copy)]
 pub struct MergedEdges {
     pub count: usize,
     pub list: [MergedEdge; MAX_EDGES],
