@@ -34,10 +34,8 @@ returns c = found-x _ _ _ _ _ c.requires (extends-join c.link_points-k.ensures c
 pub link_segments-m-requires-clause-edges_room : goal.link_segments-m-requires-clause-edges_room
 link_segments-m-requires-clause-edges_room c = pulls-room _ _ _ _ _ c.requires c.link_points-k.ensures
 
-pub solve_links-requires-clause-bounded : goal.solve_links-requires-clause-bounded
-solve_links-requires-clause-bounded c = let d = c.requires in let e = extends-join c.link_points-k.ensures c.link_segments-m.ensures in
-    parts-bounded _ _ _ _ _ d e blank-room
-
 pub solve_links-requires-clause-network : goal.solve_links-requires-clause-network
-solve_links-requires-clause-network c = let d = c.requires in let e = extends-join c.link_points-k.ensures c.link_segments-m.ensures in
-    parts-network _ _ _ _ _ d e blank-room
+solve_links-requires-clause-network c = let e = extends-join c.link_points-k.ensures c.link_segments-m.ensures in parts-network _ _ _ _ _ c.requires e blank-room
+
+pub solve_links-requires-clause-bounded : goal.solve_links-requires-clause-bounded
+solve_links-requires-clause-bounded c = let e = extends-join c.link_points-k.ensures c.link_segments-m.ensures in parts-bounded _ _ _ _ _ c.requires e blank-room
