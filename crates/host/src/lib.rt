@@ -1,6 +1,8 @@
 // The calls for C. Slices are a pointer and a length; answers are packed into one word, beside which a stroke has its two floats. Each
 // contract says what the header's functions read out of the word, in the numbers that the call tells, which word it is, and what the lent
 // buffers hold at the end. All of it is in the specs of `words` and of the layers below.
+#![tactic(auto)]
+
 ghost use Rattle.std.specs.Prelude.{◌≡◌};
 ghost use Rattle.queries.specs.Calls.{counts_call, name_call};
 ghost use Rattle.table.specs.declared.rule.Rule.TheVariants.{Old};
