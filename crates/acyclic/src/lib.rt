@@ -1,4 +1,6 @@
 // Loops of edges: the lowest node that lies on one, or that there is none.
+#![tactic(auto)]
+
 pub mod settle;
 
 ghost use Rattle.std.specs.Prelude.{◌≡◌, [], ◌≤◌, length};

@@ -197,7 +197,7 @@ fn open_node(
 }
 
 // A place in the queue, and a link of that node's list; 0 where the list is to be read from its start.
-#[derive(Drop)]
+#[derive(Clone, Copy, Drop)]
 pub struct Cursor {
     pub place: usize,
     pub link: usize,

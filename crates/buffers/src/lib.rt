@@ -1,5 +1,7 @@
 // What is done to lent slices below all layers: entries cleared, copied, stored, read and changed, and the larger and the smaller of two
 // numbers.
+#![tactic(auto)]
+
 ghost use Rattle.std.specs.Prelude.{◌≡◌, ◌++◌, ℕ, max, min, ◌-◌, ◌≤◌, ◌<◌, length, set, take, drop, replicate};
 ghost use Rattle.graph.specs.Rows.{at};
 ghost use Rattle.buffers.specs.Written.{Stored};

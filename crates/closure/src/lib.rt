@@ -1,5 +1,7 @@
 // The transitive closure of edges, kept as they are put in one by one: a matrix of n rows of n marks, where entry u * n + v is set where a
 // walk leads from u to v. To ask for a walk is then one read.
+#![tactic(auto)]
+
 ghost use Rattle.std.specs.Prelude.{◌≡◌, ◌+◌, ◌*◌, ◌≤◌, ◌<◌, length};
 ghost use Rattle.table.specs.Limits.{max_steps};
 ghost use Rattle.closure.specs.Closure.{MatrixRoom, Fresh, either, RowMarked, RowExtended, Extended, Added};

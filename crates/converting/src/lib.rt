@@ -2,6 +2,8 @@
 //
 // The call takes any input, ends, and has no condition. Its contract puts its answer, told in numbers, and the buffer equal to what a
 // definition of specs/Calls.antt makes of the input.
+#![tactic(auto)]
+
 ghost use Rattle.std.specs.Prelude.{◌≡◌, ◌≤◌, length};
 ghost use Rattle.buffers.specs.Written.{Stored};
 ghost use Rattle.encoding.specs.Limits.{max_shortest};

@@ -2,6 +2,8 @@
 //
 // The call takes any input, ends, and has no condition. Its contract puts its answer, told in numbers, and the buffer equal to what a
 // definition of specs/Calls.antt makes of the input, and says of the x of an answer that they are the best.
+#![tactic(auto)]
+
 mod cost;
 pub mod space;
 

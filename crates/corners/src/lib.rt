@@ -1,4 +1,6 @@
 // Corners and strokes in millimetres, for a screen. Every number is exact: nothing is rounded for an x or a row of up to 16 bits.
+#![tactic(auto)]
+
 ghost use Rattle.std.specs.Prelude.{◌≡◌, ◌<◌};
 ghost use Rattle.corners.specs.Corners.{max_place, corner_of, Stands};
 ghost use Rattle.corners.specs.Strokes.{stroke_to, end_of};

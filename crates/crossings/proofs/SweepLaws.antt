@@ -67,12 +67,12 @@ point-inserted r i n counts gs rest counts' seen e (l ∷ ls) low h o =
 
 -- Counting point by point gives what insertion gives: the segments of one point do not count against each other, so that they may be
 -- counted in after all of them have been counted.
-swept-inserted : (r i n : ℕ) (counts : List ℕ) (seen : List PlacedSegment) → length counts ≡ n → {gs : List (List ℕ)} → AllBelow n gs → Onward r i counts seen
+swept-inserted : (r n i : ℕ) (counts : List ℕ) (seen : List PlacedSegment) → length counts ≡ n → {gs : List (List ℕ)} → AllBelow n gs → Onward r i counts seen
     → inserted seen (placed_from r i gs) ≡ swept counts gs
 unfolding placed_from inserted swept
-swept-inserted r i n counts seen e none_below o = refl
-swept-inserted r i n counts seen e (one_below {ls} {gs} low rest) o =
-    point-inserted r i n counts gs (λ counts' seen' e' o'. swept-inserted r (suc i) n counts' seen' e' rest o') counts seen e ls low
+swept-inserted r n i counts seen e none_below o = refl
+swept-inserted r n i counts seen e (one_below {ls} {gs} low rest) o =
+    point-inserted r i n counts gs (λ counts' seen' e' o'. swept-inserted r n (suc i) counts' seen' e' rest o') counts seen e ls low
     (record { here = λ l. o.onward i l (omega arith) }) (record { onward = λ j l b. o.onward j l (omega arith) })
 
 -- ---- the segments stand from left to right
@@ -100,7 +100,7 @@ rightward-placed r i (ls ∷ gs) = rightward-point r i ls gs (rightward-placed r
 pub swept-pairs : (n r : ℕ) {gs : List (List ℕ)} → AllBelow n gs → swept (replicate n 0) gs ≡ crossing_pairs (placed_from r 0 gs)
 unfolding left_crossings
 swept-pairs n r {gs} low =
-    sym (swept-inserted r 0 n (replicate n 0) [] (length-replicate {A = ℕ} n 0) low (record { onward = λ j l b. sym (right_zero n l) }))
+    sym (swept-inserted r n 0 (replicate n 0) [] (length-replicate {A = ℕ} n 0) low (record { onward = λ j l b. sym (right_zero n l) }))
     ∙ inserted-pairs (rightward-placed r 0 gs)
 
 -- ---- the segments of a single point do not cross, nor those to a single point

@@ -1,4 +1,6 @@
 // Crossings of segments, counted row by row and by insertion: no pair of segments is looked at.
+#![tactic(auto)]
+
 mod between;
 mod tally;
 

@@ -1,4 +1,6 @@
 // Draining: what each node has to send is sent to nodes that have a demand.
+#![tactic(auto)]
+
 ghost use Rattle.std.specs.Prelude.{◌≡◌, ◌<◌, length};
 ghost use Rattle.transport.specs.Flow.{Flows};
 ghost use Rattle.relaxation.specs.Low.{RowsLow};

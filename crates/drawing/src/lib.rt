@@ -1,5 +1,7 @@
 // The drawing of a chart: its points laid in rows, and of the start order and the results of eight passes the first with fewest crossings.
 // A small chart is laid and drawn in the smaller of two sizes of room.
+#![tactic(auto)]
+
 ghost use Rattle.std.specs.Prelude.{◌≡◌, ◌≤◌, length};
 ghost use Rattle.points.specs.Points.{point_rows};
 ghost use Rattle.points.specs.Laying.{edges_between};

@@ -2,6 +2,8 @@
 //
 // Every call takes any input, ends, and has no condition. Its contract puts its answer, told in numbers, and its buffer equal to what a
 // definition of specs/Calls.antt makes of the input, and says of the rows of an answer that they are the best.
+#![tactic(auto)]
+
 mod lent;
 
 ghost use Rattle.std.specs.Prelude.{◌≡◌};

@@ -1,12 +1,11 @@
 -- The turns of the search for the best order.
 use mathlib.Core.Path.{◌≡◌, sym, ap, ◌∙◌}
 use mathlib.Core.Bool.{true, false, cond}
-use mathlib.Core.List.{List, ◌++◌, append-nil}
+use mathlib.Core.List.{List, ◌++◌}
 use Prim.Native.Nat.{ℕ, suc, ◌+◌, ◌-◌, ◌≤◌, ◌<◌}
 use native.Mathlib.Omega.{arith}
 use lib.Dec.{ltb}
-use lib.ListN.{length, get_or, take, drop, take-append-drop, drop_of_length-le}
-use lib.Seq.{take_all}
+use lib.ListN.{length, get_or, take, drop, take-append-drop}
 use borrow.Author.Tests.{lt-ltb, le-ltb}
 use Rattle.buffers.proofs.OccursLaws.{at-occurs}
 use Rattle.permutations.specs.Orders.{Permutation}
@@ -76,10 +75,6 @@ trying_start costs tries row saved total p e f =
       lowest_is = rw e f;
       whole = rw (z, e);
     }
-
--- of a slice and one as long, copied
-pub copied : (src dst new : List ℕ) → length dst ≡ length src → new ≡ take (length src) src ++ drop (length src) dst → new ≡ src
-copied src dst new h e = e ∙ rw (take_all (length src) src (omega arith), drop_of_length-le dst {i = length src} (omega arith), append-nil)
 
 module _ (costs : List ℕ) (tries : ℕ) (row order saved : List ℕ) (total lowest t : ℕ) (s : Trying costs tries row order saved total lowest t) where
   pub trying-last : t < tries → next_order order ≡ last → BestIs costs tries row saved lowest

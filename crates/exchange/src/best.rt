@@ -25,7 +25,7 @@ fn keep_fewer(order: &[u8], total: usize, saved: &mut [u8], fewest: usize) -> us
     ensures { FewerKept order.now total saved.old fewest saved.new result }
 {
     if total < fewest {
-        bytes::copy(order, saved);
+        saved.copy_from_slice(order);
         return total;
     }
     fewest
@@ -37,7 +37,7 @@ pub fn find_best(order: &mut [u8], costs: &[usize], tries: usize, saved: &mut [u
     requires saved_len { length saved.old ≡ length order.old }
     ensures { BestIs costs.now tries order.old saved.new result }
 {
-    bytes::copy(order, saved);
+    saved.copy_from_slice(order);
     let mut total = cost_from(order, costs, 0);
     let mut fewest = total;
     let mut t = 0;

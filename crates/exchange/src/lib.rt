@@ -3,6 +3,8 @@
 //
 // A point of the row is its present position. The crossings of pairs come in a table: what stands at i * MAX_ROW_POINTS + j are those of i
 // and j where i stands left of j.
+#![tactic(auto)]
+
 mod best;
 mod costs;
 pub mod limits;

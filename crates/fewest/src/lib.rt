@@ -1,4 +1,6 @@
 // The passes over a drawing, and the first order with fewest crossings among theirs and the start.
+#![tactic(auto)]
+
 ghost use Rattle.std.specs.Prelude.{◌≡◌, length};
 ghost use Rattle.passes.specs.Order.{downward};
 ghost use Rattle.fewest.specs.Fewest.{pass_count};

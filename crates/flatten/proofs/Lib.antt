@@ -2,4 +2,3 @@
 pub mod FlattenLaws
 pub mod CopyLaws
 pub mod NumberLaws
-pub mod MemoryLaws

@@ -1,4 +1,6 @@
 // Edges copied to flat arrays, one array a field: a table's edges, and edges that are lent as records or as numbers.
+#![tactic(auto)]
+
 pub mod edges;
 pub mod numbers;
 pub mod records;

@@ -6,7 +6,7 @@ use native.Mathlib.Nat.{mul-le-mul_left, zero-lt-suc, eq_of_mul-eq-mul_left}
 use native.Mathlib.Omega.{arith}
 use lib.ListN.{length, get_or}
 use Rattle.graph.specs.declared.Edge.{Edge}
-use Rattle.graph.specs.Rows.{no_edge, Kept, Tight, Feasible}
+use Rattle.graph.specs.Rows.{no_edge, Tight, Feasible}
 
 -- Σ f·g over the edges
 unfoldable pub dot : List ℕ → (Edge → ℕ) → List Edge → ℕ

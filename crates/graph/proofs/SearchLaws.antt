@@ -1,18 +1,17 @@
 -- The trial of every placement finds best rows, where they do not pass its bound, and finds nothing where no rows are feasible.
 use mathlib.Core.Path.{◌≡◌, refl, sym, ap, ◌∙◌}
-use mathlib.Core.Logic.{◌≢◌}
-use mathlib.Core.Bool.{Bool, true, false, ◌&&◌, ◌||◌, cond, true≢false, and-eq-true_iff}
+use mathlib.Core.Bool.{Bool, true, false, ◌||◌, cond, true≢false, and-eq-true_iff}
 use Prim.Native.Nat.{ℕ, zero, suc, ◌+◌, ◌*◌, ◌-◌, ◌≤◌, ◌<◌, suc-le-suc}
-use native.Mathlib.Nat.{not-suc-le-zero, le_of_suc-le-suc, zero-lt-suc, suc_inj, suc-ne-zero, le_refl}
+use native.Mathlib.Nat.{not-suc-le-zero, le_of_suc-le-suc, zero-lt-suc, suc_inj, suc-ne-zero}
 use native.Mathlib.Decide.{ℕ_discrete}
 use native.Mathlib.Omega.{arith}
 use mathlib.Core.List.{List, [], ◌∷◌, ◌++◌, map}
-use lib.ListN.{length, get_or, take, length-append}
+use lib.ListN.{length, take, length-append}
 use lib.Seq.{take-suc, take_all, length-take-le, get_or-take}
 use lib.Dec.{leb, ltb, leb-zero}
 use borrow.Author.Tests.{leb-true, leb-false, le-leb, lt-leb, lt-ltb, le-ltb}
 use Rattle.graph.specs.declared.Edge.{Edge}
-use Rattle.graph.specs.Rows.{no_edge, at, Kept, Feasible, total, Best, Within}
+use Rattle.graph.specs.Rows.{at, Kept, Feasible, total, Best, Within}
 use Rattle.graph.specs.Search.{keeps_one, keeps, sieve, run, extend, placements, lightest, first_lightest, widest, rows_of}
 
 -- ---- the test of one placement

@@ -5,7 +5,7 @@ ghost use Rattle.std.specs.Prelude.{◌≡◌};
 ghost use Rattle.graph.specs.Directed.{own_edge, directed};
 
 // An edge (document 01: an arrow). Its head stands at least `gap` rows below its tail, and each row of its length costs `weight`.
-#[derive(Drop)]
+#[derive(Clone, Copy, Drop)]
 pub struct Edge {
     pub from: usize,
     pub to: usize,
@@ -15,7 +15,7 @@ pub struct Edge {
 
 // An edge of a table, and its firmness (document 02): a soft edge may be turned, any other is a must edge. Each of its numbers fits a byte,
 // so that there is little to copy where a table is handed on.
-#[derive(Drop)]
+#[derive(Clone, Copy, Drop)]
 pub struct TableEdge {
     pub from: u8,
     pub to: u8,

@@ -1,4 +1,6 @@
 // An order held against the best so far, and against the one before it.
+#![tactic(auto)]
+
 ghost use Rattle.std.specs.Prelude.{◌≡◌, true, false, length};
 ghost use Rattle.crossings.specs.Placing.{Countable};
 ghost use Rattle.judging.specs.Judging.{Keeping, Judged};

@@ -1,6 +1,6 @@
 -- Words as bytes, and numbers in decimal digits.
 use Rattle.std.specs.Prelude.{cond, List, ◌++◌, ℕ, zero, suc, ◌+◌, ◌/◌, ◌%◌, ltb}
-use Prim.Native.Char.{Char, code}
+use Prim.Native.Char.{code}
 use Prim.Native.String.{String, [], ◌∷◌}
 
 -- the bytes of a text in ASCII

@@ -1,4 +1,6 @@
 // The text of a point: of a step its name and its kind, of a dummy the number of its edge.
+#![tactic(auto)]
+
 pub mod text;
 
 ghost use Rattle.std.specs.Prelude.{◌∷◌, ◌+◌, ◌≤◌, length};

@@ -2,7 +2,7 @@
 use mathlib.Core.Path.{◌≡◌, refl, sym, ap, ◌∙◌, subst}
 use mathlib.Core.Bool.{Bool, true, false, cond}
 use mathlib.Core.List.{List, [], ◌∷◌, ◌++◌, map}
-use Prim.Native.Nat.{ℕ, zero, suc, ◌+◌, ◌-◌, ◌≤◌, ◌<◌}
+use Prim.Native.Nat.{ℕ, suc, ◌+◌, ◌-◌, ◌≤◌, ◌<◌}
 use native.Mathlib.Numerals.{add-one}
 use native.Mathlib.Omega.{arith}
 use borrow.Author.Tests.{eq-eqb, ne_eqb}
@@ -15,7 +15,7 @@ use Rattle.buffers.specs.Written.{Stored}
 use Rattle.buffers.proofs.WriteLaws.{Writing, writing_start, writing-part, writing-room}
 use Rattle.labels.specs.Text.{blank, newline, decimal, blanked}
 use Rattle.labels.specs.Labels.{Labelled}
-use Rattle.lines.specs.Printing.{Sheet, leading, behind, fields_in, line_in, lines_from}
+use Rattle.lines.specs.Printing.{Sheet, leading, fields_in, line_in, lines_from}
 
 -- the row of a dummy stands behind those of the steps
 pub at-behind : (ys rows : List ℕ) (p : ℕ) → length ys ≤ p → at (ys ++ rows) p ≡ at rows (p - length ys)

@@ -1,4 +1,6 @@
 // The lines of a chart and of a refusal, put into a buffer that has room for them.
+#![tactic(auto)]
+
 pub mod dummies;
 
 ghost use Rattle.std.specs.Prelude.{◌≡◌, ◌++◌, map, ◌+◌, ◌≤◌, ◌<◌, length, drop};

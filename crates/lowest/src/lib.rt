@@ -1,5 +1,7 @@
 // The lowest rows. A caller may lend rows that it found by relaxing the edges itself: a look at every edge and every node tells whether
 // they are the lowest ones, and only where they are not are they found here.
+#![tactic(auto)]
+
 ghost use Rattle.std.specs.Prelude.{◌≡◌, ℕ, ◌+◌, ◌≤◌, ◌<◌, length, replicate};
 ghost use Rattle.graph.specs.Rows.{at};
 ghost use Rattle.relaxation.specs.Certificate.{Relaxed};

@@ -1,5 +1,7 @@
 // Repeated edges: those with equal ends and equal firmness are drawn as one line, here a merged edge (the `lines` of other crates are those
 // of a listing). Rows are found without it.
+#![tactic(auto)]
+
 mod slots;
 
 ghost use Rattle.std.specs.Prelude.{◌≡◌, ◌+◌, ◌≤◌, ◌<◌, max, take, replicate};
@@ -13,7 +15,7 @@ use graph::{Edge, TableEdge, direct};
 use table::limits::MAX_EDGES;
 
 // Edges that are drawn as one: their ends in the table and their firmness, the largest gap, the weights added, and the number of the first.
-#[derive(Drop)]
+#[derive(Clone, Copy)]
 pub struct MergedEdge {
     pub from: u8,
     pub to: u8,
@@ -24,7 +26,7 @@ pub struct MergedEdge {
 }
 
 // The first `count` entries of the list are in use, and the others are blank.
-#[derive(Drop)]
+#[derive(Clone, Copy)]
 pub struct MergedEdges {
     pub count: usize,
     pub list: [MergedEdge; MAX_EDGES],

@@ -1,4 +1,6 @@
 // Best rows of a network of edges with gaps and weights, and a flow that certifies them: a primal-dual method with supply and demand by node.
+#![tactic(auto)]
+
 ghost use Rattle.std.specs.Prelude.{length};
 ghost use Rattle.relaxation.specs.Certificate.{Certified};
 ghost use Rattle.relaxation.specs.Limits.{row_limit};

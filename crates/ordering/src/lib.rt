@@ -3,6 +3,8 @@
 // The calls take any input, end, and have no condition. Their contracts put the answer, told in numbers, and both buffers equal to what a
 // definition of specs/Calls.antt makes of the input, and say of the rows of an answer that they are the best and of its total that it is
 // theirs.
+#![tactic(auto)]
+
 pub mod chart;
 mod store;
 pub mod types;

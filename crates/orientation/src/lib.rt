@@ -1,4 +1,6 @@
 // Cycle removal: which of a table's soft edges are turned, so that no loop is left; and the loops of must edges, which no turning removes.
+#![tactic(auto)]
+
 mod gather;
 mod judge;
 

@@ -8,7 +8,7 @@ use Rattle.outcome.specs.declared.Refusal.{Refusal}
 use Rattle.outcome.specs.declared.Refusal.TheVariants.{Cut, Overlong, BadEdition, ManySteps, BadKind, OutOfRange, BadNameByte, ManyEdges, BadEnd, Spare, Loop, ManyPoints, ShortBuffer, NoStep, BadFirmness, LargeChart, BadRow, ManyTries}
 use Rattle.outcome.specs.declared.Verdict.{Verdict}
 use Rattle.outcome.specs.declared.Verdict.TheVariants.{Accepted, Refused}
-use Rattle.outcome.specs.Refusal.{Outcome, done, refused, numbers_of, number_of, step_of, told, bare, verdict_numbers, refusal_in}
+use Rattle.outcome.specs.Refusal.{Outcome, done, refused, numbers_of, number_of, step_of, told, verdict_numbers, refusal_in}
 
 -- ---- refusals
 

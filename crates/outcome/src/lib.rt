@@ -1,9 +1,11 @@
 // Why a call is turned down, and whether it is: what the layers share of their answers.
+#![tactic(auto)]
+
 ghost use Rattle.std.specs.Prelude.{◌≡◌};
 ghost use Rattle.outcome.specs.Refusal.{number_of};
 
 // Why a call is turned down; `numbers_of` in specs/Refusal.antt gives each case its number.
-#[derive(Drop)]
+#[derive(Clone, Copy)]
 pub enum Refusal {
     // The bytes end too early.
     Cut,

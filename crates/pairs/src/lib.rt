@@ -1,5 +1,7 @@
 // The best order of a row of a chart, from the segments between it and the row above it: where their upper ends stand there, and where their
 // lower ends stand in the row now.
+#![tactic(auto)]
+
 mod fill;
 
 ghost use Rattle.std.specs.Prelude.{◌≤◌};

@@ -1,4 +1,6 @@
 // Passes over an order that is kept flat: row by row the points are put in order, and their positions stored.
+#![tactic(auto)]
+
 pub mod start;
 
 ghost use Rattle.std.specs.Prelude.{◌≡◌, ◌≤◌, ◌<◌, length};

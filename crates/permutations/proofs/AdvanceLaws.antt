@@ -3,9 +3,9 @@ use mathlib.Core.Path.{◌≡◌, sym, ap, ◌∙◌, subst}
 use mathlib.Core.List.{List, [], ◌∷◌, ◌++◌, append-nil, reverse}
 use Prim.Native.Nat.{ℕ, suc, ◌+◌, ◌-◌, ◌≤◌, ◌<◌}
 use native.Mathlib.Omega.{arith}
-use lib.ListN.{length, get_or, take, drop, set, take-append-drop, length-set, drop_of_length-le}
+use lib.ListN.{length, get_or, take, drop, set, take-append-drop, length-set, length-drop, drop_of_length-le}
 use lib.Seq.{drop-cons, append_snoc, take_all, take_at, length-take-le, take-set-le, drop-set-lt, drop-set-add, take-suc-set, get_or-drop}
-use Rattle.bytes.specs.Bytes.{rev, slice}
+use borrow.Rule.Slice.PartMut.{put_mid}
 use Rattle.permutations.specs.Next.{last, to, above, exchanged, next_with, next_order}
 use Rattle.permutations.specs.Places.{Pivot, RunIs, Advanced}
 
@@ -41,11 +41,8 @@ module _ (p : List ℕ) (i r j : ℕ) (e : suc i ≡ r) (h : r ≤ j) (k : j < l
       ∙ ap (λ (v : ℕ). take v (set p i (get_or p j 0))) (sym e) ∙ take-suc-set p i (get_or p j 0) (omega arith)
 
   -- turned round from place r on
-  turned-is : (n : ℕ) → n ≡ length (swapped p i j)
-      → take r (swapped p i j) ++ (rev (slice r n (swapped p i j)) ++ drop n (swapped p i j)) ≡ take i p ++ (get_or p j 0 ∷ reverse (set (drop r p) (j - r) (get_or p i 0)))
-  unfolding rev slice
-  turned-is n l =
-      rw (take_all n (swapped p i j) (omega arith), drop_of_length-le (swapped p i j) {i = n} (omega arith), rest-is, front-is, append-nil, append_snoc)
+  turned-is : take r (swapped p i j) ++ reverse (drop r (swapped p i j)) ≡ take i p ++ (get_or p j 0 ∷ reverse (set (drop r p) (j - r) (get_or p i 0)))
+  turned-is = rw (rest-is, front-is, append_snoc)
 
   next-is : next_order (drop r p) ≡ last → above (get_or p i 0) (drop r p) ≡ suc (j - r)
       → next_order p ≡ to (take i p ++ (get_or p j 0 ∷ reverse (set (drop r p) (j - r) (get_or p i 0))))
@@ -60,14 +57,23 @@ module _ (p : List ℕ) (i r j : ℕ) (e : suc i ≡ r) (h : r ≤ j) (k : j < l
   begins-same : take i (take i p ++ (get_or p j 0 ∷ reverse (set (drop r p) (j - r) (get_or p i 0)))) ≡ take i p
   begins-same = take_at (take i p) (get_or p j 0 ∷ reverse (set (drop r p) (j - r) (get_or p i 0))) i (length-take-le i p (omega arith))
 
+-- a list whose part from r on is turned round
+pub tail_turned : (r : ℕ) (w y : List ℕ) → r ≤ length w → y ≡ reverse (take (length w - r) (drop r w))
+    → put_mid r (length w - r) w y ≡ take r w ++ reverse (drop r w)
+tail_turned r w y h e =
+    let k : length (drop r w) ≤ length w - r = omega (arith, length-drop r w) in
+    let t : take (length w - r) (drop r w) ≡ drop r w = take_all (length w - r) (drop r w) k in
+    let d : drop (length w - r) (drop r w) ≡ [] = drop_of_length-le (drop r w) {i = length w - r} k in
+    rw (e, t, d, append-nil)
+
 -- What is left in place is the next order. The points before the change stay; the exchanged one follows, and behind it the others,
 -- which fell before and rise now.
-pub advanced : (p : List ℕ) (r j n : ℕ) (q : List ℕ) → Pivot p r → RunIs p r (get_or p (r - 1) 0) j → n ≡ length (swapped p (r - 1) j)
-    → q ≡ take r (swapped p (r - 1) j) ++ (rev (slice r n (swapped p (r - 1) j)) ++ drop n (swapped p (r - 1) j)) → Advanced p r q
-advanced p r j n q v s l e =
+pub advanced : (p : List ℕ) (r j : ℕ) (q : List ℕ) → Pivot p r → RunIs p r (get_or p (r - 1) 0) j
+    → q ≡ take r (swapped p (r - 1) j) ++ reverse (drop r (swapped p (r - 1) j)) → Advanced p r q
+advanced p r j q v s e =
     let i : suc (r - 1) ≡ r = omega (arith, v.behind) in
     let w : q ≡ take (r - 1) p ++ (get_or p j 0 ∷ reverse (set (drop r p) (j - r) (get_or p (r - 1) 0))) =
-    e ∙ turned-is p (r - 1) r j i s.after s.inside n l in
+    e ∙ turned-is p (r - 1) r j i s.after s.inside in
     record {
       next = next-is p (r - 1) r j i s.after s.inside v.last_rest s.run ∙ ap to (sym w);
       begins = ap (take (r - 1)) w ∙ begins-same p (r - 1) r j i s.after s.inside;

@@ -1,4 +1,6 @@
 // The orders of some points, one after another as they stand in a dictionary: from one to the next, in place.
+#![tactic(auto)]
+
 ghost use Rattle.std.specs.Prelude.{◌<◌, length, get_or};
 ghost use Rattle.permutations.specs.Places.{Pivot, PivotIs, RunIs, Advanced};
 
@@ -45,6 +47,5 @@ pub fn advance(p: &mut [u8], r: usize)
     let j = find_larger(p, r, x);
     p[r - 1] = p[j];
     p[j] = x;
-    let n = p.len();
-    bytes::reverse(p, r, n);
+    p[r..].reverse();
 }

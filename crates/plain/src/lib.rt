@@ -1,4 +1,6 @@
 // Strokes for C: a struct of plain numbers that is handed over by value, since one word has no room for a case and two floats.
+#![tactic(auto)]
+
 ghost use Rattle.std.specs.Prelude.{◌≡◌, ◌<◌};
 ghost use Rattle.outcome.specs.Refusal.{step_of};
 ghost use Rattle.words.specs.Words.{second};

@@ -2,6 +2,8 @@
 //
 // Every call takes any bytes, ends, and has no condition. Its contract puts its whole answer, told in numbers (0 and its values, or the
 // number of the refusal), equal to what a definition of specs/Calls.antt makes of the bytes.
+#![tactic(auto)]
+
 pub mod types;
 
 ghost use Rattle.std.specs.Prelude.{◌≡◌};

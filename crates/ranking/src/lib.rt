@@ -1,4 +1,6 @@
 // The row finder for edges that stand in flat arrays: what it does for every form in which edges come.
+#![tactic(auto)]
+
 mod place;
 
 ghost use Rattle.std.specs.Prelude.{◌≤◌};

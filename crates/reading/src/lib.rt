@@ -2,6 +2,8 @@
 //
 // The calls take any bytes, end, and have no condition. Their contracts put the whole answer, 0 or the number of the refusal and the table,
 // equal to what a definition of `specs/Calls.antt` of `table` makes of the bytes.
+#![tactic(auto)]
+
 mod lists;
 mod whole;
 

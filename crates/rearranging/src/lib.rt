@@ -3,6 +3,8 @@
 // The call takes any input, ends, and has no condition. Its contract puts its answer, told in numbers, and the buffer equal to what a
 // definition of specs/Calls.antt makes of the input, and says of an answer what makes it one: an order of the row, no order of which is below
 // the floor, none worse for more tries, and the best of all where all were looked at.
+#![tactic(auto)]
+
 mod arrange;
 
 ghost use Rattle.std.specs.Prelude.{◌≡◌};

@@ -1,5 +1,7 @@
 // The best order of one row of a chart that is laid in flat lists: the row of each point, the ends of each segment, and the order, its rows
 // one behind the other.
+#![tactic(auto)]
+
 mod pick;
 
 ghost use Rattle.std.specs.Prelude.{◌≡◌, [], ◌∷◌, ◌≤◌, ◌<◌, length};

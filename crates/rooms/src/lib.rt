@@ -2,6 +2,8 @@
 //
 // An array has its size when the code is compiled, so that all that a chart may need would be cleared for every chart. There is room of two
 // sizes, and the order of a small chart is found in the smaller.
+#![tactic(auto)]
+
 ghost use Rattle.std.specs.Prelude.{◌≡◌, true, ◌≤◌, length};
 ghost use Rattle.points.specs.Limits.{max_points};
 ghost use Rattle.passes.specs.Laid.{segments_in};

@@ -1,4 +1,6 @@
 // The lines of a chart as a pen follows them: the point that the stroke at an index goes to. Of x and millimetres nothing is known here.
+#![tactic(auto)]
+
 ghost use Rattle.std.specs.Prelude.{◌≡◌, ◌+◌, ◌≤◌, ◌<◌, length, take};
 ghost use Rattle.std.proofs.Math.Option.{some};
 ghost use Rattle.std.proofs.Math.ListN.{get_elem?};

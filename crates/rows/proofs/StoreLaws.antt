@@ -3,21 +3,20 @@ use mathlib.Core.Path.{◌≡◌, refl, sym, ap, ◌∙◌, subst}
 use mathlib.Core.Bool.{Bool, true, false, cond}
 use mathlib.Core.Logic.{◌⊎◌, inl, inr}
 use mathlib.Core.List.{List, [], ◌∷◌, ◌++◌}
-use Prim.Native.Nat.{ℕ, suc, ◌+◌, ◌≤◌, ◌<◌}
-use native.Mathlib.Numerals.{add-one}
+use Prim.Native.Nat.{ℕ, ◌≤◌, ◌<◌}
 use native.Mathlib.Omega.{arith}
 use borrow.Author.Tests.{le-leb, lt-leb}
 use lib.Dec.{leb}
-use lib.ListN.{length, get_or, take, drop, set}
-use lib.Seq.{take-suc, set_at, drop-cons, append_snoc, length-take-le, take_at}
+use lib.ListN.{length, take, drop}
+use lib.Seq.{length-take-le, take_at}
 use Rattle.graph.specs.declared.Edge.{Edge}
-use Rattle.graph.specs.Rows.{at, Best}
+use Rattle.graph.specs.Rows.{Best}
 use Rattle.outcome.specs.declared.Refusal.{Refusal}
 use Rattle.outcome.specs.declared.Refusal.TheVariants.{ShortBuffer}
 use Rattle.outcome.specs.declared.Verdict.{Verdict}
 use Rattle.outcome.specs.declared.Verdict.TheVariants.{Accepted}
 use Rattle.outcome.specs.declared.Verdict as verdict
-use Rattle.outcome.specs.Refusal.{Outcome, done, refused, numbers_of, number_of, refusal_in}
+use Rattle.outcome.specs.Refusal.{Outcome, done, numbers_of, number_of, refusal_in}
 use Rattle.outcome.proofs.ToldLaws.{number-some}
 use Rattle.rows.specs.declared.types.RowsFound.{RowsFound}
 use Rattle.rows.specs.declared.types.RowsAnswer.{RowsAnswer}

@@ -1,4 +1,6 @@
 // Rows that are found for edges: with their total, as an answer, and in a buffer that is lent.
+#![tactic(auto)]
+
 pub mod store;
 pub mod total;
 pub mod types;

@@ -2,6 +2,8 @@
 //
 // The x are the best rows of an auxiliary network, which the solver finds. The contract says that no other x, spaced as the order asks,
 // have a smaller total, and none of the same total a smaller x anywhere.
+#![tactic(auto)]
+
 pub mod limits;
 mod link;
 

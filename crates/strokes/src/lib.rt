@@ -2,6 +2,8 @@
 //
 // The call takes any input, ends, and has no condition. Its contract puts its answer equal to what a definition of specs/Calls.antt makes
 // of the input, and says of a stroke that it ends exactly where its point belongs by the best x and the best rows.
+#![tactic(auto)]
+
 mod place;
 
 ghost use Rattle.std.specs.Prelude.{◌≡◌};

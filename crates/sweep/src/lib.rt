@@ -1,4 +1,6 @@
 // The first order with fewest crossings: of the points in their start order and after each of eight passes.
+#![tactic(auto)]
+
 ghost use Rattle.std.specs.Prelude.{◌≡◌, ◌≤◌, length};
 ghost use Rattle.passes.specs.Order.{downward};
 ghost use Rattle.passes.specs.Laid.{rows_held};

@@ -4,7 +4,7 @@ ghost use Rattle.table.specs.Number.{takes};
 
 // The old rule, by which stored tables are converted, takes long forms: numbers with groups of zeros behind them. Any other reading is by
 // the shortest rule, which takes a number in its fewest bytes alone.
-#[derive(Drop)]
+#[derive(Clone, Copy, Drop)]
 pub enum Rule {
     Old,
     Shortest,

@@ -4,7 +4,7 @@ use graph::TableEdge;
 use outcome::Verdict;
 
 // What a step is, with the number that its kind carries: hundredths of a d_b for an adjustment, minutes for a wait.
-#[derive(Drop)]
+#[derive(Clone, Copy, Drop)]
 pub enum Kind {
     Check,
     Adjust(usize),
@@ -12,7 +12,7 @@ pub enum Kind {
 }
 
 // A step: its kind, and where in the table its name stands.
-#[derive(Drop)]
+#[derive(Clone, Copy, Drop)]
 pub struct Step {
     pub kind: Kind,
     pub start: usize,

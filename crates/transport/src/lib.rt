@@ -1,3 +1,5 @@
 // A flow with supply and demand at the nodes: the edges taken in, and supply and demand moved over them.
+#![tactic(auto)]
+
 pub mod load;
 pub mod shift;

@@ -1,5 +1,7 @@
 // The words in which calls answer C: several numbers in 64 bits. specs/Words.antt says which bits, and what the functions of the header
 // read out of them.
+#![tactic(auto)]
+
 ghost use Rattle.std.specs.Prelude.{◌≡◌, [], ◌∷◌, ◌<◌};
 ghost use Rattle.outcome.specs.Refusal.{numbers_of, step_of};
 ghost use Rattle.words.specs.Words.{second, third, points_room, total_room, crossings_room, done_word, counts_word, name_word, chart_word, order_word};

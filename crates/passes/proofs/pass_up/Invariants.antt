@@ -1,0 +1,13 @@
+-- `pass_up` meets its contract: what is left of the pass, the rows before row r - 1, gives the whole.
+use mathlib.Core.Path.{◌≡◌}
+use Prim.Native.Nat.{◌≤◌}
+use lib.ListN.{length}
+use Rattle.passes.specs.Laid.{rows_held}
+use Rattle.passes.proofs.PassLaws.{GoingUp}
+use Rattle.passes.proofs.pass_up.Given as goal
+
+abbrev pub invariant-loop-r : goal.invariant-loop-r
+invariant-loop-r l = GoingUp l.lower l.head l.next l.counts (rows_held l.first) l.r l.first l.initial.order l.initial.pos l.order l.pos × (length l.order ≡ length l.initial.order) × (length l.pos ≡ length l.initial.pos) × (length l.totals ≡ length l.initial.totals) × (length l.moved ≡ length l.initial.moved) × (l.r ≤ rows_held l.first)
+
+abbrev pub decreases-loop-r : goal.decreases-loop-r
+decreases-loop-r l = l.r
