@@ -1,6 +1,6 @@
 /* Yuvatondro: the calls for C.
  *
- * Link libhost.a (rt staticlib host). A table is the bytes of docs/FORMAT.md. A slice is a pointer and a length in entries; where the
+ * Link libhost.a (tools/build makes it). A table is the bytes of docs/FORMAT.md. A slice is a pointer and a length in entries; where the
  * length is 0 the pointer is not followed. No buffer shares memory with another, with the table or with the records. Every call
  * takes any bytes and any lengths, ends, and keeps no state.
  *

@@ -9,8 +9,8 @@ import os
 import re
 import sys
 
-# words of the library that have a capital after an underscore, and stay
-OF_THE_LIBRARY = {"mut_slice_Tells", "shr_slice_Tells", "uint_Lawful", "uint_Makes", "uint_Tells", "scaled_Fits", "walk_Meets"}
+# words of the library that have a capital after an underscore, and a unit in comments: they stay
+OF_THE_LIBRARY = {"dB", "mut_slice_Tells", "shr_slice_Tells", "uint_Lawful", "uint_Makes", "uint_Tells", "scaled_Fits", "walk_Meets"}
 # a word of the library that has another name today, in names of lemmas about it; and a word that would fall together with a label
 OTHER_WORDS = {"getD": "get_or", "rowsIn": "rows_held"}
 # labels that would fall together with a definition

@@ -2,21 +2,20 @@
 #![tactic(auto)]
 
 use converting::convert_table;
-use libc::{STDIN_FILENO, STDOUT_FILENO};
+use intake::read_full;
+use std::io;
 use table::limits::MAX_INPUT;
 use writing::WriteAnswer;
 use writing::limits::MAX_SHORTEST;
 
 // Of a longer input the first bytes are judged, which makes no difference: no table is that long (`converted-whole`). Nothing that is
 // written is longer than the page (`converted-short`), so that it is never short.
-fn main() {
+fn main(rt: HostRuntime) -> io::Result<()> {
     let mut input = [0u8; MAX_INPUT];
-    let n = io::read_full(STDIN_FILENO, &mut input);
+    let n = read_full(&mut rt.stdin(), &mut input)?;
     let mut page = [0u8; MAX_SHORTEST];
     match convert_table(&input[..n], &mut page) {
-        WriteAnswer::Written(len) => {
-            io::write_all(STDOUT_FILENO, &page[..len]);
-        }
-        WriteAnswer::Refused(_) => {}
+        WriteAnswer::Written(len) => rt.write_all(&page[..len]),
+        WriteAnswer::Refused(_) => Ok(()),
     }
 }

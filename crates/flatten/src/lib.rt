@@ -11,7 +11,7 @@ ghost use Rattle.flatten.specs.Records.{copied};
 use table::limits::MAX_EDGES;
 
 // Edges as flat arrays, one array a field.
-#[derive(Drop)]
+#[derive(Clone, Copy)]
 pub struct Flat {
     pub from: [usize; MAX_EDGES],
     pub to: [usize; MAX_EDGES],

@@ -34,7 +34,7 @@ pub enum Refusal {
     ManyTries,
 }
 
-#[derive(Drop)]
+#[derive(Clone, Copy)]
 pub enum Verdict {
     Accepted,
     Refused(Refusal),

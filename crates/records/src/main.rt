@@ -12,46 +12,47 @@ ghost use Rattle.records.specs.Input.{steps_in, edges_in};
 
 use crate::input::{MAX_READ, count_records, limit_count, read_edges, word_at};
 use crate::lend::find_lent;
-use libc::{STDIN_FILENO, STDOUT_FILENO};
+use intake::read_full;
 use outcome::Refusal;
 use rows::types::{Row, RowsAnswer};
+use std::io;
 
 // The most entries of a buffer that can be lent.
 const MAX_ENTRIES: usize = 255;
 
 // A blank and a number.
-fn print_field(x: usize) {
-    io::write_all(STDOUT_FILENO, b" ");
-    io::print_decimal(STDOUT_FILENO, x as u64);
+fn print_field(rt: &impl Print, x: usize) -> io::Result<()> {
+    print!(rt; " {x}")
 }
 
 // The refusal's number, and for a loop the lowest step on one.
-fn print_refusal(f: Refusal) {
-    io::write_all(STDOUT_FILENO, b"refused");
-    print_field(outcome::number_of(f));
+fn print_refusal(rt: &impl Print, f: Refusal) -> io::Result<()> {
+    print!(rt; "refused")?;
+    print_field(rt, outcome::number_of(f))?;
     if let Refusal::Loop(s) = f {
-        print_field(s);
+        print_field(rt, s)?;
     }
-    io::write_all(STDOUT_FILENO, b"\n");
+    println!(rt; "")
 }
 
-fn print_row(row: Row) {
-    print_field(row as usize);
+fn print_row(rt: &impl Print, row: Row) -> io::Result<()> {
+    print_field(rt, row as usize)
 }
 
 // The first n entries of a buffer.
-fn print_fields(rows: &[Row], n: usize) {
+fn print_fields(rt: &impl Print, rows: &[Row], n: usize) -> io::Result<()> {
     for i in 0..n {
         if i < rows.len() {
-            print_row(rows[i]);
+            print_row(rt, rows[i])?;
         }
     }
+    Ok(())
 }
 
-fn print_rows(rows: &[Row], n: usize) {
-    io::write_all(STDOUT_FILENO, b"rows");
-    print_fields(rows, n);
-    io::write_all(STDOUT_FILENO, b"\n");
+fn print_rows(rt: &impl Print, rows: &[Row], n: usize) -> io::Result<()> {
+    print!(rt; "rows")?;
+    print_fields(rt, rows, n)?;
+    println!(rt; "")
 }
 
 // The row finder's answer for the steps and edges that the input says.
@@ -67,18 +68,18 @@ fn find_asked(bytes: &[u8], rows: &mut [Row]) -> RowsAnswer
 }
 
 // Prints it, for a buffer of as many entries as the input asks for.
-fn print_answer(bytes: &[u8], rows: &mut [Row]) {
+fn print_answer(rt: &impl Print, bytes: &[u8], rows: &mut [Row]) -> io::Result<()> {
     let entries = limit_count(word_at(bytes, 1), rows.len());
     let lent = &mut rows[..entries];
     match find_asked(bytes, lent) {
-        RowsAnswer::Refused(f) => print_refusal(f),
-        RowsAnswer::Done => print_rows(lent, word_at(bytes, 0)),
+        RowsAnswer::Refused(f) => print_refusal(rt, f),
+        RowsAnswer::Done => print_rows(rt, lent, word_at(bytes, 0)),
     }
 }
 
-fn main() {
+fn main(rt: HostRuntime) -> io::Result<()> {
     let mut bytes = [0u8; MAX_READ];
     let mut rows = [0u16; MAX_ENTRIES];
-    let len = io::read_full(STDIN_FILENO, &mut bytes);
-    print_answer(&bytes[..len], &mut rows)
+    let len = read_full(&mut rt.stdin(), &mut bytes)?;
+    print_answer(&rt, &bytes[..len], &mut rows)
 }

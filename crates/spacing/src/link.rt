@@ -19,7 +19,7 @@ fn push_edge(
     m: usize,
 ) -> usize
     requires { EdgesRoom (m + 1) from.old to.old gap.old weight.old }
-    ensures { Extends m from.entry.now to.old gap.old weight.old (record { from = a; to = b; gap = g; weight = w } ∷ []) result from.exit.now to.new gap.new weight.new }
+    ensures { Extends m from.old to.old gap.old weight.old (record { from = a; to = b; gap = g; weight = w } ∷ []) result from.new to.new gap.new weight.new }
 {
     from[m] = a;
     to[m] = b;

@@ -32,7 +32,7 @@ old_size = record { steps = 64; edges = 192 }
 abbrev pub max_kind : ℕ
 max_kind = 2
 
--- of an adjustment, in hundredths of a d_b
+-- of an adjustment, in hundredths of a dB
 abbrev pub max_tolerance : ℕ
 max_tolerance = 9999
 

@@ -3,7 +3,7 @@ use crate::limits::{MAX_EDGES, MAX_STEPS};
 use graph::TableEdge;
 use outcome::Verdict;
 
-// What a step is, with the number that its kind carries: hundredths of a d_b for an adjustment, minutes for a wait.
+// What a step is, with the number that its kind carries: hundredths of a dB for an adjustment, minutes for a wait.
 #[derive(Clone, Copy, Drop)]
 pub enum Kind {
     Check,
@@ -20,7 +20,7 @@ pub struct Step {
 }
 
 // A table: its first n steps and m edges are there, the others are blank.
-#[derive(Drop)]
+#[derive(Clone, Copy)]
 pub struct Table {
     pub n: usize,
     pub steps: [Step; MAX_STEPS],
@@ -29,7 +29,7 @@ pub struct Table {
 }
 
 // A table, or why there is none; then the table is blank.
-#[derive(Drop)]
+#[derive(Clone, Copy)]
 pub struct TableRead {
     pub verdict: Verdict,
     pub table: Table,
