@@ -1,4 +1,4 @@
--- `find_name` meets its contract: an accepted table has at most 64 steps, so the index is within the array.
+-- `find_name` meets its contract: an accepted table has no more steps than the array, so the index is within it.
 use native.Mathlib.Nat.{lt_of_lt_of_le}
 use lib.Dec.{lit<}
 use Rattle.table.specs.Limits.{max_steps}
