@@ -1,0 +1,20 @@
+-- The costs of the lines from i on are still to be written.
+use mathlib.Core.Path.{◌≡◌, refl}
+use mathlib.Core.List.{◌++◌}
+use Prim.Native.Nat.{ℕ, ◌+◌, ◌-◌, ◌≤◌, ◌<◌}
+use native.Mathlib.Omega.{arith}
+use lib.ListN.{length}
+use borrow.Author.Rules.{rules}
+use Rattle.graph.specs.Rows.{at}
+use Rattle.buffers.proofs.WriteLaws.{Writing, writing_start, writing-room, writing-part, writing-long, writing-end}
+use Rattle.points.proofs.EdgeLaws.{tail-in, head_in, to_inside}
+use Rattle.coordinates.specs.Costing.{line_costs, lines_of, costs_from}
+use Rattle.coordinates.proofs.LayLaws.{costs_rest, rest-turn, rest_end, line-length}
+use Rattle.coordinates.proofs.cost.lay_costs.Reads as reads
+use Rattle.coordinates.proofs.cost.lay_costs.Given as goal
+
+abbrev pub invariant-loop-i : goal.invariant-loop-i
+invariant-loop-i l = (l.i-end ≡ length l.from) × (l.i ≤ length l.from) × Writing l.initial.cost 0 (costs_from l.rows (lines_of l.from l.to l.weight)) l.cost l.s (costs_rest l.rows l.from l.to l.weight l.i)
+
+abbrev pub decreases-loop-i : goal.decreases-loop-i
+decreases-loop-i l = length l.from - l.i
