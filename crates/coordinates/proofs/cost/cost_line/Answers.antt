@@ -1,14 +1,8 @@
-use mathlib.Core.Path.{◌≡◌, refl, ap, subst}
-use Prim.Native.Nat.{ℕ, ◌+◌, ◌-◌, ◌*◌, ◌≤◌, ◌<◌}
+use mathlib.Core.Path.{refl, subst}
 use native.Mathlib.Omega.{arith}
-use lib.ListN.{length}
-use borrow.Author.Rules.{rules}
-use Rattle.buffers.proofs.WriteLaws.{Writing, writing_start, writing-next, writing-one, writing-long, writing-end}
-use Rattle.merging.specs.Merging.{max_added}
-use Rattle.coordinates.specs.Costing.{factor_at, line_costs}
-use Rattle.coordinates.proofs.CostLaws.{cost_low}
-use Rattle.coordinates.proofs.LayLaws.{costs_on, costs-start, costs-turn, costs-end, line-length}
-use Rattle.coordinates.proofs.cost.cost_line.Reads as reads
+use Rattle.buffers.proofs.WriteLaws.{Writing, writing_start, writing-next, writing-one, writing-end}
+use Rattle.coordinates.specs.Costing.{line_costs}
+use Rattle.coordinates.proofs.LayLaws.{costs-start, costs-turn, costs-end, line-length}
 use Rattle.coordinates.proofs.cost.cost_line.Goals as goal
 
 pub bounds-cost-s : goal.bounds-cost-s

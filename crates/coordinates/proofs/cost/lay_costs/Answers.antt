@@ -1,15 +1,10 @@
-use mathlib.Core.Path.{◌≡◌, refl}
-use mathlib.Core.List.{◌++◌}
-use Prim.Native.Nat.{ℕ, ◌+◌, ◌-◌, ◌≤◌, ◌<◌}
+use Prim.Native.Nat.{◌<◌}
 use native.Mathlib.Omega.{arith}
 use lib.ListN.{length}
-use borrow.Author.Rules.{rules}
 use Rattle.graph.specs.Rows.{at}
-use Rattle.buffers.proofs.WriteLaws.{Writing, writing_start, writing-room, writing-part, writing-long, writing-end}
-use Rattle.points.proofs.EdgeLaws.{tail-in, head_in, to_inside}
-use Rattle.coordinates.specs.Costing.{line_costs, lines_of, costs_from}
-use Rattle.coordinates.proofs.LayLaws.{costs_rest, rest-turn, rest_end, line-length}
-use Rattle.coordinates.proofs.cost.lay_costs.Reads as reads
+use Rattle.buffers.proofs.WriteLaws.{writing-room, writing-part, writing-end}
+use Rattle.coordinates.specs.Costing.{line_costs}
+use Rattle.coordinates.proofs.LayLaws.{rest-turn, rest_end, line-length}
 use Rattle.coordinates.proofs.cost.lay_costs.Goals as goal
 
 pub cost_line-s-requires-clause-k_in_bounds : goal.cost_line-s-requires-clause-k_in_bounds

@@ -1,16 +1,10 @@
 -- The costs of the lines from i on are still to be written.
-use mathlib.Core.Path.{◌≡◌, refl}
-use mathlib.Core.List.{◌++◌}
-use Prim.Native.Nat.{ℕ, ◌+◌, ◌-◌, ◌≤◌, ◌<◌}
-use native.Mathlib.Omega.{arith}
+use mathlib.Core.Path.{◌≡◌}
+use Prim.Native.Nat.{◌-◌, ◌≤◌}
 use lib.ListN.{length}
-use borrow.Author.Rules.{rules}
-use Rattle.graph.specs.Rows.{at}
-use Rattle.buffers.proofs.WriteLaws.{Writing, writing_start, writing-room, writing-part, writing-long, writing-end}
-use Rattle.points.proofs.EdgeLaws.{tail-in, head_in, to_inside}
-use Rattle.coordinates.specs.Costing.{line_costs, lines_of, costs_from}
-use Rattle.coordinates.proofs.LayLaws.{costs_rest, rest-turn, rest_end, line-length}
-use Rattle.coordinates.proofs.cost.lay_costs.Reads as reads
+use Rattle.buffers.proofs.WriteLaws.{Writing}
+use Rattle.coordinates.specs.Costing.{lines_of, costs_from}
+use Rattle.coordinates.proofs.LayLaws.{costs_rest}
 use Rattle.coordinates.proofs.cost.lay_costs.Given as goal
 
 abbrev pub invariant-loop-i : goal.invariant-loop-i

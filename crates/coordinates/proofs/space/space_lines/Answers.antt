@@ -1,11 +1,7 @@
 -- The arrays have room for the chart, and what is laid in them is what the search for x takes.
 use mathlib.Core.Path.{sym}
-use native.Mathlib.Omega.{arith}
 use lib.Seq.{length-take-le}
-use Rattle.ordering.proofs.SplitLaws.{part-from, part-to, part-weight}
 use Rattle.coordinates.proofs.SpaceLaws.{rows_room, segments-room, costs-room, spaceable, lines-spaced, row_fits, upper_fits, lower-fits, cost-fits}
-use borrow.Author.Rules.{rules}
-use Rattle.coordinates.proofs.space.space_lines.Reads as reads
 use Rattle.coordinates.proofs.space.space_lines.Goals as goal
 
 pub slice_bounds-find_x-end : goal.slice_bounds-find_x-end
