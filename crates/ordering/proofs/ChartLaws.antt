@@ -8,7 +8,7 @@ use borrow.Author.Tests.{le-leb, lt-leb}
 use lib.ListN.{length, get_or, take, drop, replicate, length-map, get_or-map}
 use lib.Seq.{take_all}
 use Rattle.graph.specs.declared.Edge.{Edge}
-use Rattle.graph.specs.Rows.{at, no_edge, total, Best}
+use Rattle.graph.specs.Rows.{at, no_edge, Best}
 use Rattle.outcome.specs.declared.Refusal.{Refusal}
 use Rattle.outcome.specs.declared.Refusal.TheVariants.{ManyPoints}
 use Rattle.outcome.specs.declared.Verdict.TheVariants.{Accepted, Refused}

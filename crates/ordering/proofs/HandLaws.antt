@@ -15,7 +15,7 @@ use Rattle.outcome.specs.declared.Refusal.TheVariants.{ShortBuffer}
 use Rattle.outcome.specs.declared.Verdict.{Verdict}
 use Rattle.outcome.specs.declared.Verdict.TheVariants.{Accepted}
 use Rattle.outcome.specs.declared.Verdict as verdict
-use Rattle.outcome.specs.Refusal.{Outcome, done, refused, numbers_of, refusal_in}
+use Rattle.outcome.specs.Refusal.{Outcome, numbers_of, refusal_in}
 use Rattle.outcome.proofs.ToldLaws.{number-some}
 use Rattle.rows.specs.Placed.{outcome_by}
 use Rattle.ordering.specs.declared.ChartAnswer.{ChartAnswer}
