@@ -1,7 +1,7 @@
 -- The costs that the code lays, line by line, are those of the chart's segments.
-use mathlib.Core.Path.{◌≡◌, refl, sym, ap, ◌∙◌}
+use mathlib.Core.Path.{◌≡◌, refl, ap, ◌∙◌}
 use mathlib.Core.Bool.{Bool, true, false, cond}
-use mathlib.Core.List.{List, [], ◌∷◌, ◌++◌, map, tail, map-append}
+use mathlib.Core.List.{List, [], ◌∷◌, ◌++◌, map, map-append}
 use Prim.Native.Nat.{ℕ, zero, suc, ◌+◌, ◌*◌, ◌≤◌, ◌<◌, suc-le-suc}
 use native.Mathlib.Nat.{le_of_suc-le-suc, zero-lt-suc, mul-le-mul_left, mul-le-mul_right, le_trans}
 use native.Mathlib.Omega.{arith}
@@ -16,7 +16,7 @@ use Rattle.points.proofs.PointLaws.{tails, heads}
 use Rattle.spacing.specs.Limits.{plain_factor, end_factor, inner_factor}
 use Rattle.spacing.specs.Coordinates.{Costed}
 use Rattle.spacing.specs.Flat.{costed_of}
-use Rattle.coordinates.specs.Costs.{factor, priced, costed_from, chart_costed}
+use Rattle.coordinates.specs.Costs.{priced, costed_from, chart_costed}
 use Rattle.coordinates.specs.Costing.{factor_at, line_costs, costs_from, lines_of}
 
 abbrev pub weights : List Edge → List ℕ

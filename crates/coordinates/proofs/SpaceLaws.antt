@@ -1,20 +1,17 @@
 -- What is laid of a chart's lines is what the search for x takes, and what it finds is the best x of the chart.
-use mathlib.Core.Path.{◌≡◌, refl, sym, ap, subst, ◌∙◌}
+use mathlib.Core.Path.{◌≡◌, sym, ap, subst, ◌∙◌}
 use mathlib.Core.List.{List, [], ◌∷◌, flatten}
-use Prim.Native.Nat.{ℕ, zero, suc, ◌+◌, ◌*◌, ◌≤◌, ◌<◌, suc-le-suc}
+use Prim.Native.Nat.{ℕ, zero, suc, ◌+◌, ◌*◌, ◌≤◌, suc-le-suc}
 use native.Mathlib.Nat.{zero-lt-suc}
 use native.Mathlib.Omega.{arith}
 use lib.ListN.{length, take, replicate, length-map, length-replicate}
-use lib.Seq.{length-take-le}
 use Rattle.graph.specs.declared.Edge.{Edge}
-use Rattle.graph.specs.Rows.{at}
 use Rattle.table.specs.Limits.{max_edges}
 use Rattle.buffers.specs.Lists.{Below}
 use Rattle.buffers.specs.Written.{Stored}
 use Rattle.merging.specs.Merging.{max_added}
 use Rattle.points.specs.Points.{Segment, point_rows, segments}
 use Rattle.points.specs.Laying.{edges_between, Chart, uppers, lowers}
-use Rattle.points.proofs.EdgeLaws.{edges-length}
 use Rattle.points.proofs.PointLaws.{tails, heads, any-points, any-segments, points-length, segments-length}
 use Rattle.points.proofs.NeighbourLaws.{uppers-in, lowers-in, chart-leads}
 use Rattle.fewest.specs.Fewest.{Drawing, drawing_of}
@@ -28,7 +25,6 @@ use Rattle.ordering.proofs.SplitLaws.{part-from}
 use Rattle.spacing.specs.Limits.{max_xs, max_segments, inner_factor}
 use Rattle.spacing.specs.Flat.{costed_of, Ordered, Priced, Spaceable, FoundX}
 use Rattle.coordinates.specs.Costs.{chart_costed}
-use Rattle.coordinates.specs.Calls.{ChartX, chart_xs}
 use Rattle.coordinates.specs.Costing.{costs_from, lines_of, Light, Lined, LinesSpaced}
 use Rattle.coordinates.proofs.CostLaws.{weights, Ends, none, one, All≤, costed-flat, any-costs, costs-low, all-at, all_of}
 use Rattle.coordinates.proofs.LayLaws.{costs-length}

@@ -1,9 +1,9 @@
 -- The ends of the call: refused as the chart is, refused for its points, no stroke at the index, and a stroke.
 use mathlib.Core.Path.{◌≡◌, refl, sym, ap, subst, ◌∙◌}
 use mathlib.Core.Bool.{Bool, false}
-use mathlib.Core.List.{List, [], ◌∷◌, map}
+use mathlib.Core.List.{List, [], ◌∷◌, ◌++◌, map}
 use mathlib.Core.Option.{Option, some, none}
-use Prim.Native.Nat.{ℕ, zero, suc, ◌-◌, ◌≤◌, ◌<◌}
+use Prim.Native.Nat.{ℕ, zero, suc, ◌+◌, ◌-◌, ◌≤◌, ◌<◌}
 use native.Mathlib.Omega.{arith}
 use borrow.Author.Tests.{le-leb, lt-leb}
 use lib.ListN.{length, get_or, take, get_elem?}
@@ -22,11 +22,11 @@ use Rattle.buffers.specs.Lists.{Below}
 use Rattle.buffers.specs.Padded.{padded}
 use Rattle.rows.specs.Placed.{outcome_by}
 use Rattle.layering.specs.Calls.{turned_in}
-use Rattle.points.specs.Points.{point_rows}
+use Rattle.points.specs.Points.{point_rows, between}
 use Rattle.points.proofs.PointLaws.{points-length}
 use Rattle.merging.specs.declared.MergedEdge.{MergedEdge}
 use Rattle.merging.specs.declared.MergedEdges.{MergedEdges}
-use Rattle.merging.specs.Merged.{merged, drawn_edges}
+use Rattle.merging.specs.Merged.{merged, drawn_edge, drawn_edges}
 use Rattle.merging.specs.Merging.{merged_array}
 use Rattle.ordering.specs.declared.chart.EdgeEnds.{EdgeEnds}
 use Rattle.ordering.specs.declared.types.ChartFound.{ChartFound}
@@ -45,7 +45,7 @@ use Rattle.routes.specs.declared.Visit.{Visit}
 use Rattle.routes.specs.declared.VisitAnswer.TheVariants.{To, Nowhere}
 use Rattle.strokes.specs.declared.StrokeAnswer.{StrokeAnswer}
 use Rattle.strokes.specs.declared.StrokeAnswer.TheVariants.{At, Nothing, Refused}
-use Rattle.routes.specs.Routes.{no_visit, visits_from}
+use Rattle.routes.specs.Routes.{no_visit, line_visits, visits_from}
 use Rattle.strokes.specs.Calls.{visits_of, stroke_of, strokes_of, strokes_of_table, answer_of, stroke_at, stroke_call, CornerExact, AnswerExact}
 use Rattle.routes.specs.Finding.{visit_answer, Routable}
 use Rattle.strokes.specs.Placing.{StrokePlaced}
@@ -95,7 +95,9 @@ visits-padded : (ys : List ℕ) (k : ℕ) (flags : List Bool) (d : ℕ) (edges :
     → visits_from ys (padded k false flags) d edges ≡ visits_from ys flags d edges
 unfolding padded visits_from
 visits-padded ys k flags d [] = refl
-visits-padded ys k flags d (e ∷ edges) = rw (padded-get flags (k - length flags) e.first, visits-padded ys k flags _ edges)
+visits-padded ys k flags d (e ∷ edges) =
+    let n = between ys (drawn_edge flags e) in
+    rw (padded-get flags (k - length flags) e.first) (ap (λ (l : List Visit). line_visits (get_or flags e.first false) e d n ++ l) (visits-padded ys k flags (d + n) edges))
 
 -- ---- with a chart
 

@@ -1,0 +1,39 @@
+-- The arrays have room for the chart, and what is laid in them is what the search takes.
+use native.Mathlib.Omega.{arith}
+use Rattle.ordering.proofs.SplitLaws.{part-from, part-to}
+use Rattle.rearranging.proofs.ArrangeLaws as laws
+use borrow.Author.Rules.{rules}
+use Rattle.rearranging.proofs.arrange.arrange_row.Goals as goal
+
+pub lay_rows-p-requires-clause-to_in_bounds : goal.lay_rows-p-requires-clause-to_in_bounds
+lay_rows-p-requires-clause-to_in_bounds c = laws.rows_room c.requires
+
+pub slice_bounds-row-end : goal.slice_bounds-row-end
+slice_bounds-row-end c = laws.row_fits c.requires c.lay_rows-p.ensures c.lay_segments-s.ensures.stored c.lay_segments-s.ensures.stored_2
+
+pub arrange_laid-requires : goal.arrange_laid-requires
+arrange_laid-requires c = laws.stack c.requires c.lay_rows-p.ensures c.lay_segments-s.ensures.stored c.lay_segments-s.ensures.stored_2
+
+pub lay_segments-s-requires-clause-to_in_bounds : goal.lay_segments-s-requires-clause-to_in_bounds
+lay_segments-s-requires-clause-to_in_bounds c = laws.segments-room c.requires
+
+pub slice_bounds-lower-end : goal.slice_bounds-lower-end
+slice_bounds-lower-end c = laws.lower-fits c.requires c.lay_rows-p.ensures c.lay_segments-s.ensures.stored c.lay_segments-s.ensures.stored_2
+
+pub slice_bounds-arrange_laid-end-3 : goal.slice_bounds-arrange_laid-end-3
+slice_bounds-arrange_laid-end-3 c = laws.lower-count c.requires c.lay_rows-p.ensures c.lay_segments-s.ensures.stored c.lay_segments-s.ensures.stored_2
+
+pub lay_segments-s-requires-clause-to_in_bounds_2 : goal.lay_segments-s-requires-clause-to_in_bounds_2
+lay_segments-s-requires-clause-to_in_bounds_2 c = laws.segments-room c.requires
+
+pub slice_bounds-upper-end : goal.slice_bounds-upper-end
+slice_bounds-upper-end c = laws.upper_fits c.requires c.lay_rows-p.ensures c.lay_segments-s.ensures.stored c.lay_segments-s.ensures.stored_2
+
+pub returns : goal.returns
+returns c = laws.row-ended c.requires c.lay_rows-p.ensures c.lay_segments-s.ensures.stored c.lay_segments-s.ensures.stored_2 c.arrange_laid.ensures
+
+pub slice_bounds-arrange_laid-end : goal.slice_bounds-arrange_laid-end
+slice_bounds-arrange_laid-end c = laws.row_count c.requires c.lay_rows-p.ensures c.lay_segments-s.ensures.stored c.lay_segments-s.ensures.stored_2
+
+pub slice_bounds-arrange_laid-end-2 : goal.slice_bounds-arrange_laid-end-2
+slice_bounds-arrange_laid-end-2 c = laws.upper-count c.requires c.lay_rows-p.ensures c.lay_segments-s.ensures.stored c.lay_segments-s.ensures.stored_2
