@@ -67,13 +67,11 @@ pub fn chart_table(bytes: &[u8]) -> TableChart
         },
         Verdict::Accepted => {
             let edges = table.edges;
-            let m = table.m;
-            let n = table.n;
             let rows = found.rows;
             TableChart {
                 table: table,
                 turned: turned,
-                found: draw_edges(edges, turned, m, n, rows, found.total),
+                found: draw_edges(edges, turned, table.m, table.n, rows, found.total),
             }
         }
     }
