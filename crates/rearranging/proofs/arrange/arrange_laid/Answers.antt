@@ -1,8 +1,6 @@
 -- The four ends of the search in flat lists: too many points, too many tries, a short buffer, and an order.
-use native.Mathlib.Omega.{arith}
-use Rattle.reordering.proofs.StackLaws.{order-low, order-few}
+use Rattle.reordering.proofs.StackLaws.{order-low}
 use Rattle.rearranging.proofs.LaidLaws as laws
-use borrow.Author.Rules.{rules}
 use Rattle.rearranging.proofs.arrange.arrange_laid.Goals as goal
 
 pub gather_row-k-requires-clause-below : goal.gather_row-k-requires-clause-below

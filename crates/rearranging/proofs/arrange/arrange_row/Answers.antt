@@ -1,8 +1,5 @@
 -- The arrays have room for the chart, and what is laid in them is what the search takes.
-use native.Mathlib.Omega.{arith}
-use Rattle.ordering.proofs.SplitLaws.{part-from, part-to}
 use Rattle.rearranging.proofs.ArrangeLaws as laws
-use borrow.Author.Rules.{rules}
 use Rattle.rearranging.proofs.arrange.arrange_row.Goals as goal
 
 pub lay_rows-p-requires-clause-to_in_bounds : goal.lay_rows-p-requires-clause-to_in_bounds

@@ -1,8 +1,6 @@
-use mathlib.Core.Path.{◌≡◌, refl}
-use Prim.Native.Nat.{◌-◌}
+use mathlib.Core.Path.{refl}
 use native.Mathlib.Omega.{arith}
-use lib.ListN.{length}
-use Rattle.rearranging.proofs.NameLaws.{Naming, inside, naming-start, naming-more, naming-end}
+use Rattle.rearranging.proofs.NameLaws.{naming-more, naming-end}
 use Rattle.rearranging.proofs.arrange.name_points.Goals as goal
 
 pub loop-i-preserved : goal.loop-i-preserved

@@ -1,9 +1,8 @@
 -- The first i places are named, and the other entries are as they were.
-use mathlib.Core.Path.{◌≡◌, refl}
+use mathlib.Core.Path.{◌≡◌}
 use Prim.Native.Nat.{◌-◌}
-use native.Mathlib.Omega.{arith}
 use lib.ListN.{length}
-use Rattle.rearranging.proofs.NameLaws.{Naming, inside, naming-start, naming-more, naming-end}
+use Rattle.rearranging.proofs.NameLaws.{Naming}
 use Rattle.rearranging.proofs.arrange.name_points.Given as goal
 
 abbrev pub invariant-loop-i : goal.invariant-loop-i

@@ -1,11 +1,7 @@
 -- The array has room for the rows, and what is read of it and of the x is the stroke of the definition.
-use Prim.Native.Nat.{◌<◌}
 use native.Mathlib.Omega.{arith}
-use Rattle.ordering.proofs.SplitLaws.{part-from, part-to}
-use Rattle.spacing.specs.Limits.{max_xs}
 use Rattle.coordinates.proofs.SpaceLaws.{rows_room}
 use Rattle.strokes.proofs.PlaceLaws.{row_low, x-low, point-few, stroke-placed}
-use borrow.Author.Rules.{rules}
 use Rattle.strokes.proofs.place.place_stroke.Goals as goal
 
 pub bounds-xs-p : goal.bounds-xs-p
