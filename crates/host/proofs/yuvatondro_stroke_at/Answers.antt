@@ -8,11 +8,8 @@ use Rattle.words.specs.Words.{stroke_read}
 use Rattle.plain.specs.declared.PlainStroke.{PlainStroke}
 use Rattle.plain.specs.Plain.{stroke_numbers, plain_answer, PlainExact}
 use Rattle.plain.proofs.PlainLaws.{step_fits, stroke-read, plain-exact}
-use borrow.Author.Rules.{rules}
-use Rattle.host.proofs.yuvatondro_stroke_at.Statement.{statement}
-use Rattle.host.proofs.yuvatondro_stroke_at.Tie as tie
+use Rattle.host.proofs.yuvatondro_stroke_at.Goals as goal
 
--- what the call promises, of an answer and its plain numbers
 handed : (bytes : List ℕ) (i : ℕ) (a : StrokeAnswer) (p : PlainStroke) → a ≡ stroke_call bytes i → AnswerExact bytes i a → p ≡ plain_answer a
     → (stroke_read p.answer ≡ stroke_numbers (stroke_call bytes i)) × ((p ≡ plain_answer (stroke_call bytes i)) × PlainExact bytes i p)
 handed bytes i a p is exact e =
@@ -21,14 +18,10 @@ handed bytes i a p is exact e =
       (e ∙ ap plain_answer is, subst (PlainExact bytes i) (sym e) (plain-exact bytes i a fits exact)),
     )
 
-find-stroke-requires : tie.Need-find-stroke-requires
-find-stroke-requires c κs = search rules
+pub plain_answer-requires : goal.plain_answer-requires
+plain_answer-requires c = step_fits _ _ _ c.find_stroke.ensures.value
 
-plain-answer-requires : tie.Need-plain-answer-requires
-plain-answer-requires c κs = step_fits _ _ _ c.find-stroke.ensures.0
-
-returns : tie.Need-returns
-returns c = let found = c.before.find-stroke.ensures in handed _ _ _ _ found.0 found.1 c.plain-answer.ensures
-
-pub yuvatondro-stroke-at-spec : {M : Type 1} → statement M
-yuvatondro-stroke-at-spec = tie.close (tie.spec find-stroke-requires plain-answer-requires returns)
+pub returns : goal.returns
+returns c =
+    let h = handed _ _ _ _ c.find_stroke.ensures.value c.find_stroke.ensures.answer_exact c.plain_answer.ensures in
+    record { answer_value = h.0; value = h.1.0; plain_exact = h.1.1 }
