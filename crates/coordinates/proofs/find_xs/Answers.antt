@@ -32,14 +32,14 @@ pub returns-then-points-gt-MAX_XS : goal.returns-then-points-gt-MAX_XS
 returns-then-points-gt-MAX_XS c =
     let r = c.chart_table-charted in
     let o = open_of _ r.result r.ensures.result_value r.ensures.table_found c.in-Accepted.is in
-    let h = ended-large _ _ _ _ o c.args.xs.now c.if-points-gt-MAX_XS.true in
+    let h = ended-large _ _ _ _ o c.args.xs.now (omega arith) in
     record { result_value = h.0; xs_after = h.1.0; xs_best = h.1.1 }
 
 pub returns-then-xs-points : goal.returns-then-xs-points
 returns-then-xs-points c =
     let r = c.chart_table-charted in
     let o = open_of _ r.result r.ensures.result_value r.ensures.table_found c.in-Accepted.is in
-    let h = ended-short _ _ _ _ o c.args.xs.now c.if-points-gt-MAX_XS.false c.if-xs-points.true in
+    let h = ended-short _ _ _ _ o c.args.xs.now (omega arith) c.if-xs-points.true in
     record { result_value = h.0; xs_after = h.1.0; xs_best = h.1.1 }
 
 pub merge_ends-ends-requires-clause-mergeable : goal.merge_ends-ends-requires-clause-mergeable
@@ -61,11 +61,11 @@ pub space_lines-best-requires : goal.space_lines-best-requires
 space_lines-best-requires c =
     let r = c.chart_table-charted in
     let o = open_of _ r.result r.ensures.result_value r.ensures.table_found c.in-Accepted.is in
-    lined _ _ _ _ o c.args.xs.now c.if-points-gt-MAX_XS.false _ c.merge_ends-ends.ensures
+    lined _ _ _ _ o c.args.xs.now (omega arith) _ c.merge_ends-ends.ensures
 
 pub returns-else-xs-points : goal.returns-else-xs-points
 returns-else-xs-points c =
     let r = c.chart_table-charted in
     let o = open_of _ r.result r.ensures.result_value r.ensures.table_found c.in-Accepted.is in
-    let h = ended-spaced _ _ _ _ o c.args.xs.now c.if-points-gt-MAX_XS.false _ c.merge_ends-ends.ensures c.if-xs-points.false _ c.space_lines-best.ensures _ c.store_u16.ensures in
+    let h = ended-spaced _ _ _ _ o c.args.xs.now (omega arith) _ c.merge_ends-ends.ensures c.if-xs-points.false _ c.space_lines-best.ensures _ c.store_u16.ensures in
     record { result_value = h.0; xs_after = h.1.0; xs_best = h.1.1 }

@@ -32,7 +32,7 @@ pub returns-then-points-gt-MAX_XS : goal.returns-then-points-gt-MAX_XS
 returns-then-points-gt-MAX_XS c =
     let r = c.chart_table-charted in
     let o = open_of _ r.result r.ensures.result_value r.ensures.table_found c.in-Accepted.is in
-    let h = ended-large _ _ _ _ o c.args.index c.if-points-gt-MAX_XS.true in
+    let h = ended-large _ _ _ _ o c.args.index (omega arith) in
     record { value = h.0; answer_exact = h.1 }
 
 pub merge_edges-all-requires : goal.merge_edges-all-requires
@@ -54,13 +54,13 @@ pub find_visit-requires : goal.find_visit-requires
 find_visit-requires c =
     let r = c.chart_table-charted in
     let o = open_of _ r.result r.ensures.result_value r.ensures.table_found c.in-Accepted.is in
-    routable _ _ _ _ o 0 c.if-points-gt-MAX_XS.false _ c.merge_edges-all.ensures
+    routable _ _ _ _ o 0 (omega arith) _ c.merge_edges-all.ensures
 
 pub returns-in-Nowhere : goal.returns-in-Nowhere
 returns-in-Nowhere c =
     let r = c.chart_table-charted in
     let o = open_of _ r.result r.ensures.result_value r.ensures.table_found c.in-Accepted.is in
-    let h = ended-nothing _ _ _ _ o _ c.if-points-gt-MAX_XS.false _ c.merge_edges-all.ensures c.in-Nowhere.ensures in
+    let h = ended-nothing _ _ _ _ o _ (omega arith) _ c.merge_edges-all.ensures c.in-Nowhere.ensures in
     record { value = h.0; answer_exact = h.1 }
 
 pub merge_ends-ends-requires-clause-mergeable : goal.merge_ends-ends-requires-clause-mergeable
@@ -82,23 +82,23 @@ pub place_stroke-requires-clause-lined : goal.place_stroke-requires-clause-lined
 place_stroke-requires-clause-lined c =
     let r = c.chart_table-charted in
     let o = open_of _ r.result r.ensures.result_value r.ensures.table_found c.in-Accepted.is in
-    lines-lined _ _ _ _ o _ c.if-points-gt-MAX_XS.false _ c.merge_edges-all.ensures _ c.in-To.ensures _ c.merge_ends-ends.ensures
+    lines-lined _ _ _ _ o _ (omega arith) _ c.merge_edges-all.ensures _ c.in-To.ensures _ c.merge_ends-ends.ensures
 
 pub place_stroke-requires-clause-below : goal.place_stroke-requires-clause-below
 place_stroke-requires-clause-below c =
     let r = c.chart_table-charted in
     let o = open_of _ r.result r.ensures.result_value r.ensures.table_found c.in-Accepted.is in
-    rows-low _ _ _ _ o _ c.if-points-gt-MAX_XS.false _ c.merge_edges-all.ensures _ c.in-To.ensures (r.ensures.table_found.handable.storable c.in-Accepted.is)
+    rows-low _ _ _ _ o _ (omega arith) _ c.merge_edges-all.ensures _ c.in-To.ensures (r.ensures.table_found.handable.storable c.in-Accepted.is)
 
 pub place_stroke-requires-clause-point_in_bounds : goal.place_stroke-requires-clause-point_in_bounds
 place_stroke-requires-clause-point_in_bounds c =
     let r = c.chart_table-charted in
     let o = open_of _ r.result r.ensures.result_value r.ensures.table_found c.in-Accepted.is in
-    point-in _ _ _ _ o _ c.if-points-gt-MAX_XS.false _ c.merge_edges-all.ensures _ c.in-To.ensures (r.ensures.table_found.handable.storable c.in-Accepted.is).few_points
+    point-in _ _ _ _ o _ (omega arith) _ c.merge_edges-all.ensures _ c.in-To.ensures (r.ensures.table_found.handable.storable c.in-Accepted.is).few_points
 
 pub returns-in-To : goal.returns-in-To
 returns-in-To c =
     let r = c.chart_table-charted in
     let o = open_of _ r.result r.ensures.result_value r.ensures.table_found c.in-Accepted.is in
-    let h = ended_at _ _ _ _ o _ c.if-points-gt-MAX_XS.false _ c.merge_edges-all.ensures _ c.in-To.ensures _ c.merge_ends-ends.ensures _ c.place_stroke.ensures in
+    let h = ended_at _ _ _ _ o _ (omega arith) _ c.merge_edges-all.ensures _ c.in-To.ensures _ c.merge_ends-ends.ensures _ c.place_stroke.ensures in
     record { value = h.0; answer_exact = h.1 }
