@@ -1,5 +1,5 @@
 -- The refusals of documents 01 and 02 and their numbers, and the outcome of a call.
-use Rattle.std.specs.Prelude.{Bool, true, false, List, [], ◌∷◌, ℕ, get_or}
+use Rattle.std.specs.Prelude.{Bool, true, false, List, [], ◌∷◌, ℕ, get_or, Result, Ok, Err}
 use Rattle.outcome.specs.declared.Refusal.{Refusal}
 use Rattle.outcome.specs.declared.Verdict.{Verdict}
 use Rattle.outcome.specs.declared.Verdict.TheVariants.{Accepted, Refused}
@@ -47,6 +47,16 @@ then_do (refused r) f = refused r
 abbrev pub told : {A : Type 0} → (A → List ℕ) → Outcome A → List ℕ
 told values (done a) = 0 ∷ values a
 told values (refused r) = numbers_of r
+
+-- what an answer of the code stands for
+abbrev pub outcome_of : {A : Type 0} → Result A Refusal → Outcome A
+outcome_of (Ok a) = done a
+outcome_of (Err r) = refused r
+
+-- all that an answer tells in numbers: 0 and its values, or the refusal's number and what comes with that
+abbrev pub answered : {A : Type 0} → (A → List ℕ) → Result A Refusal → List ℕ
+answered values (Ok a) = 0 ∷ values a
+answered values (Err r) = numbers_of r
 
 -- no values come with it
 abbrev pub bare : {A : Type 0} → A → List ℕ

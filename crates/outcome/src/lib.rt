@@ -5,7 +5,7 @@ ghost use Rattle.std.specs.Prelude.{◌≡◌};
 ghost use Rattle.outcome.specs.Refusal.{number_of};
 
 // Why a call is turned down; `numbers_of` in specs/Refusal.antt gives each case its number.
-#[derive(Clone, Copy)]
+#[derive(Clone, Copy, Debug, PartialEq, Eq)]
 pub enum Refusal {
     // The bytes end too early.
     Cut,
@@ -40,28 +40,37 @@ pub enum Verdict {
     Refused(Refusal),
 }
 
-// The number that the documents give a refusal.
+impl Refusal {
+    // The number that the documents give a refusal.
+    pub fn number(self) -> usize
+        ensures { result ≡ number_of self }
+    {
+        match self {
+            Refusal::Cut => 1,
+            Refusal::Overlong => 2,
+            Refusal::BadEdition => 3,
+            Refusal::ManySteps => 4,
+            Refusal::BadKind => 5,
+            Refusal::OutOfRange => 6,
+            Refusal::BadNameByte => 7,
+            Refusal::ManyEdges => 8,
+            Refusal::BadEnd => 9,
+            Refusal::Spare => 10,
+            Refusal::Loop(_) => 11,
+            Refusal::ManyPoints => 12,
+            Refusal::ShortBuffer => 13,
+            Refusal::NoStep => 14,
+            Refusal::BadFirmness => 15,
+            Refusal::LargeChart => 16,
+            Refusal::BadRow => 17,
+            Refusal::ManyTries => 18,
+        }
+    }
+}
+
+// The number of a refusal.
 pub fn number_of(f: Refusal) -> usize
     ensures { result ≡ number_of f }
 {
-    match f {
-        Refusal::Cut => 1,
-        Refusal::Overlong => 2,
-        Refusal::BadEdition => 3,
-        Refusal::ManySteps => 4,
-        Refusal::BadKind => 5,
-        Refusal::OutOfRange => 6,
-        Refusal::BadNameByte => 7,
-        Refusal::ManyEdges => 8,
-        Refusal::BadEnd => 9,
-        Refusal::Spare => 10,
-        Refusal::Loop(_) => 11,
-        Refusal::ManyPoints => 12,
-        Refusal::ShortBuffer => 13,
-        Refusal::NoStep => 14,
-        Refusal::BadFirmness => 15,
-        Refusal::LargeChart => 16,
-        Refusal::BadRow => 17,
-        Refusal::ManyTries => 18,
-    }
+    f.number()
 }
