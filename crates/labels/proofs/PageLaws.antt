@@ -1,0 +1,32 @@
+-- A page on which a text is put part by part.
+use mathlib.Core.Path.{◌≡◌, refl, sym, ap, ◌∙◌}
+use mathlib.Core.List.{List, [], ◌++◌, append_assoc, append-nil}
+use Prim.Native.Nat.{ℕ, ◌+◌, ◌≤◌}
+use native.Mathlib.Omega.{arith}
+use lib.ListN.{length, length-append}
+
+-- two parts that make up a whole
+pub record Parts (whole front back : List ℕ) : Type 0 where
+  pub is : whole ≡ front ++ back
+
+-- With the rest behind what is on the page it would be whole: what was there, and the text. Loops that put a text have this as their
+-- invariant.
+pub record Putting (old text page rest : List ℕ) : Type 0 where
+  pub completes : page ++ rest ≡ old ++ text
+
+pub putting_start : (old text : List ℕ) → Putting old text old text
+putting_start old text = record { completes = refl }
+
+module _ {old text page rest : List ℕ} (p : Putting old text page rest) where
+  -- there is room for the next part where there was room for the text
+  pub putting-room : {part more : List ℕ} → Parts rest part more → length page + length part ≤ length old + length text
+  putting-room e = omega (arith, simp length-append at (ap length p.completes), simp length-append at (ap length e.is))
+
+  -- one part more
+  pub putting-part : {part more next : List ℕ} → Parts rest part more → next ≡ page ++ part → Putting old text next more
+  putting-part {part} {more} {next} e f =
+      record { completes = ap (λ l. l ++ more) f ∙ append_assoc page part more ∙ ap (λ l. page ++ l) (sym e.is) ∙ p.completes }
+
+  -- and none
+  pub putting-end : rest ≡ [] → page ≡ old ++ text
+  putting-end e = sym (append-nil page) ∙ ap (λ l. page ++ l) (sym e) ∙ p.completes
