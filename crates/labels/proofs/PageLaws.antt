@@ -30,3 +30,11 @@ module _ {old text page rest : List ℕ} (p : Putting old text page rest) where
   -- and none
   pub putting-end : rest ≡ [] → page ≡ old ++ text
   putting-end e = sym (append-nil page) ∙ ap (λ l. page ++ l) (sym e) ∙ p.completes
+
+-- the two parts of a text, one put behind the other: there is room for the second, and the two leave the text
+module _ (old : List ℕ) {text front back page : List ℕ} (e : Parts text front back) (s : page ≡ old ++ front) where
+  pub parts-room : length page + length back ≡ length old + length text
+  parts-room = omega (arith, simp length-append at (ap length s), simp length-append at (ap length e.is))
+
+  pub parts-put : {next : List ℕ} → next ≡ page ++ back → next ≡ old ++ text
+  parts-put t = t ∙ ap (λ l. l ++ back) s ∙ append_assoc old front back ∙ ap (λ l. old ++ l) (sym e.is)

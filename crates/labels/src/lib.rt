@@ -10,31 +10,32 @@ ghost use Rattle.labels.specs.Labels.{label_text, Labelled, kind_text, step_text
 
 use crate::text::{put_marked, put_text};
 use arrayvec::ArrayVec;
+use points::dummy::Dummy;
 use table::types::{Kind, Step};
 
-// What the points of a chart are named by: the steps, whose names lie in the table, and for each dummy its edge, with whether each edge
-// was turned.
+// What the points of a chart are: the steps of a table, whose names stand in its bytes, and behind them the dummies, whose edges are
+// turned or kept.
 #[derive(Clone, Copy)]
 pub struct Labels<'a> {
     pub bytes: &'a [u8],
     pub steps: &'a [Step],
-    pub owners: &'a [usize],
+    pub dummies: &'a [Dummy],
     pub turned: &'a [bool],
-    ghost labelled: { Labelled bytes.now steps.now owners.now turned.now },
+    ghost labelled: { Labelled bytes.now steps.now dummies.now turned.now },
 }
 
 impl Labels<'_> {
     // Point p behind a blank: a step, or a dummy.
     pub fn put_point<const CAP: usize>(&self, p: usize, page: &mut ArrayVec<u8, CAP>)
-        requires p_in_bounds { p < length self.now.steps.now + length self.now.owners.now }
-        requires room { array_vec_len page.old + length (blank ∷ label_text self.now.bytes.now self.now.steps.now self.now.owners.now self.now.turned.now p) ≤ CAP }
-        ensures { page.new.items ≡ page.old.items ++ blank ∷ label_text self.now.bytes.now self.now.steps.now self.now.owners.now self.now.turned.now p }
+        requires p_in_bounds { p < length self.now.steps.now + length self.now.dummies.now }
+        requires room { array_vec_len page.old + length (blank ∷ label_text self.now.bytes.now self.now.steps.now self.now.dummies.now self.now.turned.now p) ≤ CAP }
+        ensures { page.new.items ≡ page.old.items ++ blank ∷ label_text self.now.bytes.now self.now.steps.now self.now.dummies.now self.now.turned.now p }
     {
         page.push(b' ');
         if p < self.steps.len() {
             put_step(self.bytes, self.steps[p], page);
         } else {
-            let edge = self.owners[p - self.steps.len()];
+            let edge = self.dummies[p - self.steps.len()].edge;
             put_dummy(edge, self.turned[edge], page);
         }
     }

@@ -8,7 +8,8 @@ use lib.ListN.{length, length-append, length-map}
 use Rattle.graph.specs.declared.Edge.{Edge}
 use Rattle.graph.specs.Rows.{at}
 use Rattle.graph.specs.Search.{run}
-use Rattle.points.specs.Points.{Dummy, Segment, between, dummies, point_rows, chain, segments_from, segments}
+use Rattle.points.specs.declared.dummy.Dummy.{Dummy}
+use Rattle.points.specs.Points.{Segment, between, dummies, point_rows, chain, segments_from, segments}
 use Rattle.points.specs.Laying.{edges_between, uppers, lowers}
 use Rattle.points.proofs.EdgeLaws.{between_at, between_all, dummy_rows, edges_from, rows-length, segments-turn}
 

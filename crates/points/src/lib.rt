@@ -1,6 +1,7 @@
 // The points of a chart: counted, their rows laid out, and the segments between them; and the number of rows.
 #![tactic(auto)]
 
+pub mod dummy;
 pub mod limits;
 pub mod lists;
 
