@@ -1,5 +1,5 @@
 // Numbers of one to three bytes, seven bits in each, lowest group first.
-ghost use Rattle.std.specs.Prelude.{◌≡◌};
+ghost use Rattle.std.specs.Prelude.{◌≡◌, ◌≤◌, IfOk};
 ghost use Rattle.outcome.specs.declared.Refusal.TheVariants.{Overlong};
 ghost use Rattle.table.specs.Number.{got, judge, takes, byte_at, number_at, number_in, read_of};
 
@@ -60,7 +60,8 @@ impl Source<'_> {
         high: usize,
         reason: Refusal,
     ) -> Result<(usize, usize), Refusal>
-        ensures { read_of result ≡ number_in self.now.rule low high reason self.now.bytes.now at }
+        ensures value { read_of result ≡ number_in self.now.rule low high reason self.now.bytes.now at }
+        ensures within { IfOk result (λ r. (low ≤ r.0) × (r.0 ≤ high)) }
     {
         let (v, next) = self.number_at(at)?;
         if v < low || high < v {
