@@ -8,8 +8,7 @@ use native.Mathlib.Omega.{arith}
 use lib.ListN.{length, get_or, drop}
 use lib.Seq.{drop-cons}
 use Rattle.std.specs.List.{zip}
-use Rattle.std.proofs.lemmas.List.{get_or_read}
-use Rattle.std.proofs.lemmas.Slice.Zip.{length-zip, get_or-zip}
+use Rattle.buffers.proofs.ZipLaws.{triple-at}
 use Rattle.graph.specs.declared.Edge.{Edge}
 use Rattle.graph.specs.Rows.{at, no_edge, total}
 use Rattle.relaxation.specs.Network.{edges_of}
@@ -42,33 +41,6 @@ pub record Summing (from to weight rows : List ℕ) (i sum : ℕ) : Type 0 where
   pub whole : sum + total (drop i (edges_of from to [] weight)) (at rows) ≡ total (edges_of from to [] weight) (at rows)
   pub small : sum ≤ i * (max_weight * top_row)
   pub some : i ≤ length from
-
--- ---- three slices side by side
-
-module _ (from to weight : List ℕ) (a : length to ≡ length from) (b : length weight ≡ length from) where
-  sides : length (zip from to) ≡ length from
-  sides = omega (arith, length-zip from to)
-
-  pub triples : length (zip (zip from to) weight) ≡ length from
-  triples = omega (arith, sides, length-zip (zip from to) weight)
-
-  -- what entry i of the three gives
-  pub triple-at : (i f t w : ℕ) → (i < length (zip (zip from to) weight)) × (◌≡◌ {A = (ℕ × ℕ) × ℕ} ((f, t), w) (get_or (zip (zip from to) weight) i ((f, t), w)))
-      → (i < length from) × (f ≡ at from i) × (t ≡ at to i) × (w ≡ at weight i)
-  triple-at i f t w p = (
-    h,
-    get_or_read from i f h (ap (λ x. x.0.0) both) 0,
-    get_or_read to i t (omega (arith, h)) (ap (λ x. x.0.1) both) 0,
-    get_or_read weight i w (omega (arith, h)) (ap (λ x. x.1) both) 0,
-  )
-    where
-      h : i < length from
-      h = omega (arith, p.0, triples)
-
-      both : ◌≡◌ {A = (ℕ × ℕ) × ℕ} ((f, t), w) ((get_or from i f, get_or to i t), get_or weight i w)
-      both =
-          p.1 ∙ get_or-zip (zip from to) weight i ((f, t), w) (omega (arith, sides, h)) (omega (arith, h))
-          ∙ ap (λ x. (x, get_or weight i w)) (get_or-zip from to i (f, t) h (omega (arith, h)))
 
 module _ (from to weight rows : List ℕ) where
   pub summing-none : Summing from to weight rows 0 0

@@ -3,4 +3,6 @@ pub mod Limits
 pub mod Coordinates
 pub mod Auxiliary
 pub mod Trial
+pub mod Even
 pub mod Flat
+pub mod Links

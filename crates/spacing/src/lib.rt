@@ -6,6 +6,7 @@
 
 pub mod limits;
 mod link;
+mod links;
 
 ghost use Rattle.std.specs.Prelude.{◌≤◌, length};
 ghost use Rattle.relaxation.specs.Network.{Network, Bounded};
@@ -15,6 +16,7 @@ ghost use Rattle.spacing.specs.Flat.{Spaceable, FoundX, NetworkSolved};
 
 use crate::limits::{MAX_LINKS, MAX_NODES};
 use crate::link::{link_points, link_segments};
+use crate::links::Links;
 
 // The best x of the points of an order, one flat list of rows; `row` has the row of each point, the others the ends and the cost of each
 // segment. They are the first entries of the answer, one a point.
@@ -28,29 +30,15 @@ pub fn find_x(
     requires { Spaceable order.now row.now upper.now lower.now cost.now }
     ensures { FoundX order.now row.now upper.now lower.now cost.now result }
 {
-    let n = order.len();
-    let mut from = [0usize; MAX_LINKS];
-    let mut to = [0usize; MAX_LINKS];
-    let mut gap = [0usize; MAX_LINKS];
-    let mut weight = [0usize; MAX_LINKS];
-    let k = link_points(order, row, &mut from, &mut to, &mut gap, &mut weight);
-    let m = link_segments(
-        upper,
-        lower,
-        cost,
-        n,
-        &mut from,
-        &mut to,
-        &mut gap,
-        &mut weight,
-        k,
-    );
+    let mut links = Links::new();
+    link_points(order, row, &mut links);
+    link_segments(upper, lower, cost, order.len(), &mut links);
     solve_links(
-        &from[..m],
-        &to[..m],
-        &gap[..m],
-        &weight[..m],
-        n + upper.len(),
+        &links.from,
+        &links.to,
+        &links.gap,
+        &links.weight,
+        order.len() + upper.len(),
     )
 }
 

@@ -3,7 +3,8 @@ use native.Mathlib.Omega.{arith}
 use Rattle.std.proofs.lemmas.Iterator.{YieldsList-from_slice, YieldsList-from_zip}
 use Rattle.std.proofs.lemmas.Iterator.Consumers.{YieldsList-turn, YieldsList-end}
 use Rattle.std.proofs.lemmas.List.{length_push}
-use Rattle.rows.proofs.TotalLaws.{triples, summing-turn, summing-all}
+use Rattle.buffers.proofs.ZipLaws.{triples}
+use Rattle.rows.proofs.TotalLaws.{summing-turn, summing-all}
 use Rattle.rows.proofs.total.total_rows.Goals as goal
 
 pub overflow_mul-sum : goal.overflow_mul-sum
