@@ -1,12 +1,12 @@
 -- Which rows are found, and how high best rows can be.
 use mathlib.Core.Path.{◌≡◌}
 use mathlib.Core.List.{List}
-use mathlib.Core.Option.{Option, none, some}
 use Prim.Native.Nat.{ℕ, ◌-◌, ◌≤◌, ◌<◌}
 use native.Mathlib.Decide.{dec_lt}
 use native.Mathlib.Nat.{le_trans, mul-le-mul_left, mul-le-mul_right}
 use native.Mathlib.Omega.{arith}
 use lib.ListN.{length, get_or-eq_default}
+use Rattle.std.specs.Prelude.{Option, Some, None}
 use Rattle.graph.specs.declared.Edge.{Edge}
 use Rattle.graph.specs.Rows.{at, Best, Within}
 use Rattle.graph.specs.Search.{rows_of}
@@ -22,8 +22,8 @@ use Rattle.rows.specs.Placed.{FairEdges}
 
 -- rows that no loop stands against are those that were to be found
 pub loop-free : (l : Option ℕ) {found rows : List ℕ} → unless_loop l found ≡ done rows → rows ≡ found
-loop-free none e = cc
-loop-free (some s) e = let z : ◌≡◌ {A = ℕ} 0 1 = cc in absurd (omega arith)
+loop-free None e = cc
+loop-free (Some s) e = let z : ◌≡◌ {A = ℕ} 0 1 = cc in absurd (omega arith)
 
 pub found_rows : (n : ℕ) (edges : List Edge) {rows : List ℕ} → rows_found n edges ≡ done rows → rows ≡ rows_of n edges
 unfolding rows_found

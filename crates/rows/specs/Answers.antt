@@ -1,6 +1,5 @@
 -- What is found for edges, and what a call that hands it out answers and leaves in a buffer.
-use Rattle.std.specs.Prelude.{◌≡◌, cond, List, [], ◌∷◌, ◌++◌, ℕ, leb, length, take, drop, Result}
-use Rattle.std.proofs.Math.Option.{Option, none, some}
+use Rattle.std.specs.Prelude.{◌≡◌, cond, List, [], ◌∷◌, ◌++◌, ℕ, leb, length, take, drop, Option, Some, None, Result}
 use Rattle.graph.specs.declared.Edge.{Edge}
 use Rattle.graph.specs.Rows.{at, total, Best}
 use Rattle.graph.specs.Search.{rows_of}
@@ -13,8 +12,8 @@ use Rattle.acyclic.specs.Loops.{lowest_on_loop}
 
 -- refused where there is a lowest step on a loop (refusal 11), else the rows
 abbrev pub unless_loop : Option ℕ → List ℕ → Outcome (List ℕ)
-unless_loop none rows = done rows
-unless_loop (some s) rows = refused (Loop s)
+unless_loop None rows = done rows
+unless_loop (Some s) rows = refused (Loop s)
 
 unfoldable pub rows_found : ℕ → List Edge → Outcome (List ℕ)
 rows_found n edges = unless_loop (lowest_on_loop n edges) (rows_of n edges)
