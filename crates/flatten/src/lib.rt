@@ -1,30 +1,69 @@
-// Edges copied to flat arrays, one array a field: a table's edges, and edges that are lent as records or as numbers.
+// Edges in flat lists, one list a field: copies of a table's edges, and of edges that are lent as records or as numbers.
 #![tactic(auto)]
 
 pub mod edges;
 pub mod numbers;
 pub mod records;
 
-ghost use Rattle.std.specs.Prelude.{◌≡◌};
-ghost use Rattle.flatten.specs.Records.{copied};
+ghost use Rattle.std.specs.Prelude.{◌≡◌, [], ◌∷◌, ◌++◌, ◌<◌, length};
+ghost use Rattle.graph.specs.Rows.{Within};
+ghost use Rattle.table.specs.Limits.{max_edges};
+ghost use Rattle.flatten.specs.Even.{Even};
 
+use arrayvec::ArrayVec;
+use graph::Edge;
+use relaxation::net::Arcs;
 use table::limits::MAX_EDGES;
 
-// Edges as flat arrays, one array a field.
-#[derive(Clone, Copy)]
+// Edges in flat lists, one list a field.
+#[derive(Drop)]
 pub struct Flat {
-    pub from: [usize; MAX_EDGES],
-    pub to: [usize; MAX_EDGES],
-    pub gap: [usize; MAX_EDGES],
-    pub weight: [usize; MAX_EDGES],
+    pub from: ArrayVec<usize, MAX_EDGES>,
+    pub to: ArrayVec<usize, MAX_EDGES>,
+    pub gap: ArrayVec<usize, MAX_EDGES>,
+    pub weight: ArrayVec<usize, MAX_EDGES>,
+    ghost even: { Even from.items to.items gap.items weight.items },
 }
 
-// How many of m lent edges are copied: all, or none of too many.
-fn count_copied(m: usize) -> usize
-    ensures { result ≡ copied m }
-{
-    if m <= MAX_EDGES {
-        return m;
+impl Flat {
+    ghost use Rattle.flatten.specs.Flat.{flat_edges};
+
+    // No edges.
+    pub fn new() -> Flat
+        ensures { flat_edges result ≡ [] }
+    {
+        Flat {
+            from: ArrayVec::<usize, MAX_EDGES>::new(),
+            to: ArrayVec::<usize, MAX_EDGES>::new(),
+            gap: ArrayVec::<usize, MAX_EDGES>::new(),
+            weight: ArrayVec::<usize, MAX_EDGES>::new(),
+        }
     }
-    0
+
+    // One edge more, field by field. There must be room.
+    pub fn push(&mut self, e: Edge)
+        requires { length (flat_edges self.old) < max_edges }
+        ensures { flat_edges self.new ≡ flat_edges self.old ++ e ∷ [] }
+    {
+        self.from.push(e.from);
+        self.to.push(e.to);
+        self.gap.push(e.gap);
+        self.weight.push(e.weight);
+    }
+
+    // The edges as the solver takes them, where they join n nodes.
+    pub fn arcs(&self, n: usize) -> Arcs<'_>
+        requires { Within n (flat_edges self.now) }
+        ensures from { result.from.now ≡ self.now.from.items }
+        ensures to { result.to.now ≡ self.now.to.items }
+        ensures gap { result.gap.now ≡ self.now.gap.items }
+        ensures nodes { result.n ≡ n }
+    {
+        Arcs {
+            from: &self.from,
+            to: &self.to,
+            gap: &self.gap,
+            n,
+        }
+    }
 }
