@@ -1,14 +1,13 @@
 -- Fair edges in flat slices: the loop finder and the solver take them, and what these answer is the outcome.
-use mathlib.Core.Path.{◌≡◌, refl, sym, ap, subst, ◌∙◌}
-use mathlib.Core.List.{List, [], ◌++◌}
+use mathlib.Core.Path.{◌≡◌, refl, sym, ap, subst}
+use mathlib.Core.List.{List, []}
 use Prim.Native.Nat.{ℕ, ◌≤◌, ◌<◌}
 use native.Mathlib.Decide.{dec_lt}
 use native.Mathlib.Omega.{arith}
-use lib.ListN.{length, take, drop, replicate, length-replicate, get_or-eq_default}
-use lib.Seq.{length-take-le}
+use lib.ListN.{length, get_or-eq_default}
 use Rattle.std.specs.Prelude.{Option, Some, None, Err}
 use Rattle.graph.specs.declared.Edge.{Edge}
-use Rattle.graph.specs.Rows.{at, total, Best, Within}
+use Rattle.graph.specs.Rows.{at, Best, Within}
 use Rattle.graph.proofs.BoundLaws.{best-is-rows_of}
 use Rattle.relaxation.specs.Limits.{gap_limit, weight_limit, row_limit}
 use Rattle.buffers.specs.Lists.{sum}
@@ -17,20 +16,14 @@ use Rattle.relaxation.specs.Network.{edges_of, Network, Bounded}
 use Rattle.relaxation.proofs.EdgesLaws.{length-edges_of, edge_at}
 use Rattle.outcome.specs.declared.Refusal.TheVariants.{Loop}
 use Rattle.table.specs.Limits.{max_steps, max_edges, max_gap, max_weight}
-use Rattle.outcome.specs.Refusal.{done, refused}
-use Rattle.buffers.specs.Padded.{padded}
-use Rattle.buffers.proofs.PaddedLaws.{padded-long, padded-front, padded-paste}
-use Rattle.buffers.specs.Written.{Stored}
-use Rattle.buffers.proofs.WriteLaws.{written_is}
+use Rattle.outcome.specs.Refusal.{done}
 use Rattle.table.specs.Fair.{FairEdge}
-use Rattle.rows.specs.declared.types.RowsFound.{RowsFound}
 use Rattle.acyclic.specs.Ends.{NodeEnds, Gaps}
 use Rattle.acyclic.specs.Loops.{FoundIs, LowRows}
 use Rattle.rows.specs.Answers.{rows_found}
 use Rattle.flatten.specs.Even.{Even}
 use Rattle.rows.specs.Limits.{top_row}
 use Rattle.rows.specs.Placed.{FairEdges, EdgesPlaced}
-use Rattle.rows.proofs.PlacedLaws.{best-low}
 use Rattle.acyclic.proofs.BoundLaws.{low-rows-at}
 use Rattle.acyclic.proofs.FoundLaws.{found-weighted, found-computes}
 
