@@ -3,4 +3,5 @@
 
 pub mod arcs;
 pub mod low;
+pub mod net;
 pub mod relax;

@@ -1,0 +1,27 @@
+// The edges of a network as slices, one a field, and lists of them by node.
+ghost use Rattle.relaxation.specs.Network.{Shaped, Network};
+
+// Edges and the number of nodes: edge a goes from node `from[a]` to node `to[a]` and asks for `gap[a]` rows between them.
+#[derive(Clone, Copy)]
+pub struct Arcs<'a> {
+    pub from: &'a [usize],
+    pub to: &'a [usize],
+    pub gap: &'a [usize],
+    pub n: usize,
+    ghost shaped: { Shaped from.now to.now gap.now n },
+}
+
+// Edges, and what each row of their length costs: all that the solver asks of a network holds of them.
+#[derive(Clone, Copy)]
+pub struct Net<'a> {
+    pub arcs: Arcs<'a>,
+    pub weight: &'a [usize],
+    ghost network: { Network arcs.from.now arcs.to.now arcs.gap.now weight.now arcs.n },
+}
+
+// The edges of each node in a linked list: `head[v]` is the first link of node v, `next[a]` the link after edge a.
+#[derive(Drop)]
+pub struct Links<'a> {
+    pub head: &'a mut [usize],
+    pub next: &'a mut [usize],
+}
