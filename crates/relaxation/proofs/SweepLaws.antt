@@ -1,5 +1,6 @@
 -- One edge relaxed, and a sweep over all of them.
 use mathlib.Core.Path.{◌≡◌, refl, sym, ap, ◌∙◌, subst}
+use mathlib.Core.Bool.{Bool, true, false, ◌||◌, true≢false, false≢true}
 use mathlib.Core.List.{List}
 use Prim.Native.Nat.{ℕ, ◌+◌, ◌≤◌, ◌<◌, max}
 use native.Mathlib.Nat.{not-suc-le-zero}
@@ -7,6 +8,8 @@ use native.Mathlib.Decide.{ℕ_discrete}
 use native.Mathlib.Omega.{arith}
 use lib.ListN.{length, set, drop}
 use lib.Seq.{set-get_or}
+use Rattle.std.proofs.Math.Bool.{or-false}
+use Rattle.std.proofs.lemmas.Bool.{or_parts}
 use Rattle.graph.specs.Rows.{at}
 use Rattle.relaxation.specs.Limits.{row_limit}
 use Rattle.relaxation.specs.Network.{Shaped}
@@ -16,7 +19,7 @@ use Rattle.relaxation.proofs.RelaxLaws.{shaped-up, sums, lift-heights, lift-long
 
 -- Both ends of an edge are written. A head that is too low comes to the tail's row plus the gap; a tail below a used edge that is too long
 -- comes to the head's row less the gap; never both. An end that does not move is written as it was.
-module _ (from to gap flow y : List ℕ) (a low high r : ℕ)
+module _ (from to gap flow y : List ℕ) (a low high : ℕ) (r : Bool)
     (tail : TailIs (at y (at from a)) (at gap a) (at y (at to a)) (at flow a) low)
     (head : high ≡ max (at y (at to a)) (at y (at from a) + at gap a)) where
   same-both : low ≡ at y (at from a) → high ≡ at y (at to a) → set (set y (at from a) low) (at to a) high ≡ y
@@ -51,23 +54,18 @@ module _ (from to gap flow y : List ℕ) (a low high r : ℕ)
       (ap (λ (l : List ℕ). set l (at to a) high) (ap (set y (at from a)) still ∙ set-get_or y (at from a) 0)
       ∙ ap (set y (at to a)) (omega arith)))
 
-pub eases-one : {from to gap flow y : List ℕ} {a : ℕ} {y' : List ℕ} {r : ℕ} → Eases from to gap flow y a y' r → r ≤ 1
-eases-one (holds z e k t) = omega arith
-eases-one (lifts o l) = omega arith
-
 -- the first a edges are swept
-pub record Sweeping (from to gap flow : List ℕ) (n : ℕ) (old y : List ℕ) (lifted a : ℕ) : Type 0 where
+pub record Sweeping (from to gap flow : List ℕ) (n : ℕ) (old y : List ℕ) (lifted : Bool) (a : ℕ) : Type 0 where
   pub long : length y ≡ length old
   pub rest : drop n y ≡ drop n old
   pub heights : Heights from to gap flow n y
-  pub none : lifted ≡ 0 → (i : ℕ) → i < a
+  pub none : lifted ≡ false → (i : ℕ) → i < a
       → (at y (at from i) + at gap i ≤ at y (at to i)) × (0 < at flow i → at y (at to i) ≤ at y (at from i) + at gap i)
   pub less : headroom row_limit y ≤ headroom row_limit old
-  pub some : 0 < lifted → headroom row_limit y < headroom row_limit old
-  pub few : lifted ≤ a
+  pub some : lifted ≡ true → headroom row_limit y < headroom row_limit old
 
 module _ (from to gap flow : List ℕ) (n : ℕ) (shape : Shaped from to gap n) (hold : Holder from to gap flow n row_limit) where
-  pub sweeping-start : (y : List ℕ) → Heights from to gap flow n y → Sweeping from to gap flow n y y 0 0
+  pub sweeping-start : (y : List ℕ) → Heights from to gap flow n y → Sweeping from to gap flow n y y false 0
   sweeping-start y hs =
       record {
         long = refl;
@@ -75,12 +73,10 @@ module _ (from to gap flow : List ℕ) (n : ℕ) (shape : Shaped from to gap n) 
         heights = hs;
         none = λ e i h. absurd (not-suc-le-zero h);
         less = omega arith;
-        some = λ p. absurd
-            (not-suc-le-zero p);
-        few = omega arith;
+        some = λ p. absurd (false≢true p);
       }
 
-  module _ (old y : List ℕ) (lifted a : ℕ) (fits : n ≤ length old) (s : Sweeping from to gap flow n old y lifted a) where
+  module _ (old y : List ℕ) (lifted : Bool) (a : ℕ) (fits : n ≤ length old) (s : Sweeping from to gap flow n old y lifted a) where
     pub fits-now : n ≤ length y
     fits-now = omega (arith, s.long)
 
@@ -92,8 +88,8 @@ module _ (from to gap flow : List ℕ) (n : ℕ) (shape : Shaped from to gap n) 
 
     -- A turn: an edge that is held changes nothing; one that is not has an end lifted, to the height of a walk, below the rows that are
     -- held, so there is less room to rise.
-    pub sweeping-turn : (y' : List ℕ) (r : ℕ) → a < length from → Eases from to gap flow y a y' r
-        → Sweeping from to gap flow n old y' (lifted + r) (a + 1)
+    pub sweeping-turn : (y' : List ℕ) (r : Bool) → a < length from → Eases from to gap flow y a y' r
+        → Sweeping from to gap flow n old y' (lifted || r) (a + 1)
     sweeping-turn y' r h (holds z e k t) =
         rw e (record {
           long = s.long;
@@ -101,11 +97,10 @@ module _ (from to gap flow : List ℕ) (n : ℕ) (shape : Shaped from to gap n) 
           heights = s.heights;
           none = λ q i b. elim (ℕ_discrete i a) [
             | yes m ↦ subst (λ (j : ℕ). (at y (at from j) + at gap j ≤ at y (at to j)) × (0 < at flow j → at y (at to j) ≤ at y (at from j) + at gap j)) (sym m) (k, t)
-            | no m ↦ s.none (omega arith) i (omega arith)
+            | no m ↦ s.none (or_parts lifted r q).0 i (omega arith)
           ];
           less = s.less;
-          some = λ p. s.some (omega arith);
-          few = omega (arith, s.few);
+          some = λ p. s.some (sym (or-false lifted) ∙ ap (λ (b : Bool). lifted || b) (sym z) ∙ p);
         })
     sweeping-turn y' r h (lifts o l) =
         let fall = lift-less from to gap flow n row_limit shape hold y fits-now s.heights a h y' l in
@@ -113,10 +108,9 @@ module _ (from to gap flow : List ℕ) (n : ℕ) (shape : Shaped from to gap n) 
           long = lift-long from to gap flow n row_limit shape hold y fits-now s.heights a h y' l ∙ s.long;
           rest = lift-rest from to gap flow n row_limit shape hold y fits-now s.heights a h y' l ∙ s.rest;
           heights = lift-heights from to gap flow n row_limit shape hold y fits-now s.heights a h y' l;
-          none = λ q i b. absurd (omega arith);
+          none = λ q i b. absurd (true≢false (sym o ∙ (or_parts lifted r q).1));
           less = omega (arith, s.less);
           some = λ p. omega (arith, s.less);
-          few = omega (arith, s.few);
         }
 
     pub sweeping-ends : length from ≤ a → Swept from to gap flow n old y lifted
