@@ -1,6 +1,6 @@
 -- One edge relaxed, and a sweep over all of them.
 use mathlib.Core.Path.{◌≡◌, refl, sym, ap, ◌∙◌, subst}
-use mathlib.Core.Bool.{Bool, true, false, ◌||◌, true≢false, false≢true}
+use mathlib.Core.Bool.{Bool, false}
 use mathlib.Core.List.{List}
 use Prim.Native.Nat.{ℕ, ◌+◌, ◌≤◌, ◌<◌, max}
 use native.Mathlib.Nat.{not-suc-le-zero}
@@ -8,8 +8,9 @@ use native.Mathlib.Decide.{ℕ_discrete}
 use native.Mathlib.Omega.{arith}
 use lib.ListN.{length, set, drop}
 use lib.Seq.{set-get_or}
-use Rattle.std.proofs.Math.Bool.{or-false}
-use Rattle.std.proofs.lemmas.Bool.{or_parts}
+use lib.Dec.{ltb}
+use mir.Val.{bool_byte}
+use borrow.Author.Tests.{ltb-true, ltb-false}
 use Rattle.graph.specs.Rows.{at}
 use Rattle.relaxation.specs.Limits.{row_limit}
 use Rattle.relaxation.specs.Network.{Shaped}
@@ -54,18 +55,19 @@ module _ (from to gap flow y : List ℕ) (a low high : ℕ) (r : Bool)
       (ap (λ (l : List ℕ). set l (at to a) high) (ap (set y (at from a)) still ∙ set-get_or y (at from a) 0)
       ∙ ap (set y (at to a)) (omega arith)))
 
--- the first a edges are swept
-pub record Sweeping (from to gap flow : List ℕ) (n : ℕ) (old y : List ℕ) (lifted : Bool) (a : ℕ) : Type 0 where
+-- the first a edges are swept, and an end was lifted at so many of them
+pub record Sweeping (from to gap flow : List ℕ) (n : ℕ) (old y : List ℕ) (lifted a : ℕ) : Type 0 where
   pub long : length y ≡ length old
   pub rest : drop n y ≡ drop n old
   pub heights : Heights from to gap flow n y
-  pub none : lifted ≡ false → (i : ℕ) → i < a
+  pub none : lifted ≡ 0 → (i : ℕ) → i < a
       → (at y (at from i) + at gap i ≤ at y (at to i)) × (0 < at flow i → at y (at to i) ≤ at y (at from i) + at gap i)
   pub less : headroom row_limit y ≤ headroom row_limit old
-  pub some : lifted ≡ true → headroom row_limit y < headroom row_limit old
+  pub some : 0 < lifted → headroom row_limit y < headroom row_limit old
+  pub few : lifted ≤ a
 
 module _ (from to gap flow : List ℕ) (n : ℕ) (shape : Shaped from to gap n) (hold : Holder from to gap flow n row_limit) where
-  pub sweeping-start : (y : List ℕ) → Heights from to gap flow n y → Sweeping from to gap flow n y y false 0
+  pub sweeping-start : (y : List ℕ) → Heights from to gap flow n y → Sweeping from to gap flow n y y 0 0
   sweeping-start y hs =
       record {
         long = refl;
@@ -73,10 +75,11 @@ module _ (from to gap flow : List ℕ) (n : ℕ) (shape : Shaped from to gap n) 
         heights = hs;
         none = λ e i h. absurd (not-suc-le-zero h);
         less = omega arith;
-        some = λ p. absurd (false≢true p);
+        some = λ p. absurd (not-suc-le-zero p);
+        few = omega arith;
       }
 
-  module _ (old y : List ℕ) (lifted : Bool) (a : ℕ) (fits : n ≤ length old) (s : Sweeping from to gap flow n old y lifted a) where
+  module _ (old y : List ℕ) (lifted a : ℕ) (fits : n ≤ length old) (s : Sweeping from to gap flow n old y lifted a) where
     pub fits-now : n ≤ length y
     fits-now = omega (arith, s.long)
 
@@ -89,7 +92,7 @@ module _ (from to gap flow : List ℕ) (n : ℕ) (shape : Shaped from to gap n) 
     -- A turn: an edge that is held changes nothing; one that is not has an end lifted, to the height of a walk, below the rows that are
     -- held, so there is less room to rise.
     pub sweeping-turn : (y' : List ℕ) (r : Bool) → a < length from → Eases from to gap flow y a y' r
-        → Sweeping from to gap flow n old y' (lifted || r) (a + 1)
+        → Sweeping from to gap flow n old y' (lifted + bool_byte r) (a + 1)
     sweeping-turn y' r h (holds z e k t) =
         rw e (record {
           long = s.long;
@@ -97,10 +100,11 @@ module _ (from to gap flow : List ℕ) (n : ℕ) (shape : Shaped from to gap n) 
           heights = s.heights;
           none = λ q i b. elim (ℕ_discrete i a) [
             | yes m ↦ subst (λ (j : ℕ). (at y (at from j) + at gap j ≤ at y (at to j)) × (0 < at flow j → at y (at to j) ≤ at y (at from j) + at gap j)) (sym m) (k, t)
-            | no m ↦ s.none (or_parts lifted r q).0 i (omega arith)
+            | no m ↦ s.none (omega arith) i (omega arith)
           ];
           less = s.less;
-          some = λ p. s.some (sym (or-false lifted) ∙ ap (λ (b : Bool). lifted || b) (sym z) ∙ p);
+          some = λ p. s.some (omega (arith, ap bool_byte z));
+          few = omega (arith, s.few, ap bool_byte z);
         })
     sweeping-turn y' r h (lifts o l) =
         let fall = lift-less from to gap flow n row_limit shape hold y fits-now s.heights a h y' l in
@@ -108,17 +112,21 @@ module _ (from to gap flow : List ℕ) (n : ℕ) (shape : Shaped from to gap n) 
           long = lift-long from to gap flow n row_limit shape hold y fits-now s.heights a h y' l ∙ s.long;
           rest = lift-rest from to gap flow n row_limit shape hold y fits-now s.heights a h y' l ∙ s.rest;
           heights = lift-heights from to gap flow n row_limit shape hold y fits-now s.heights a h y' l;
-          none = λ q i b. absurd (true≢false (sym o ∙ (or_parts lifted r q).1));
+          none = λ q i b. absurd (omega (arith, ap bool_byte o));
           less = omega (arith, s.less);
           some = λ p. omega (arith, s.less);
+          few = omega (arith, s.few, ap bool_byte o);
         }
 
-    pub sweeping-ends : length from ≤ a → Swept from to gap flow n old y lifted
+    pub sweeping-ends : length from ≤ a → Swept from to gap flow n old y (ltb 0 lifted)
     sweeping-ends h =
         record {
           long = s.long;
           rest = s.rest;
           heights = s.heights;
-          none = λ e. record { kept = λ i b. (s.none e i (omega arith)).0; tight = λ i b. (s.none e i (omega arith)).1 };
-          some = s.some;
+          none = λ e. record { kept = λ i b. (s.none (no-lift e) i (omega arith)).0; tight = λ i b. (s.none (no-lift e) i (omega arith)).1 };
+          some = λ e. s.some (ltb-true 0 lifted e);
         }
+      where
+        no-lift : ltb 0 lifted ≡ false → lifted ≡ 0
+        no-lift e = omega (arith, ltb-false 0 lifted e)
