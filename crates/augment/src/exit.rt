@@ -4,11 +4,10 @@ ghost use Rattle.graph.specs.Rows.{at};
 ghost use Rattle.relaxation.specs.Certificate.{Held};
 ghost use Rattle.augment.specs.Search.{SlackIs, SlackIsAt, LeastIs};
 
-use crate::hints::{Hints, Side};
-use crate::open::Cursor;
+use crate::open::{Cursor, Side};
 use crate::residual::Residual;
-use crate::scratch::Tree;
 use relaxation::net::Arcs;
+use relaxation::scratch::{Hints, Tree};
 
 // The slack that stands for no edge at all: a number, so that one comparison tells which of two slacks is the least.
 const NO_SLACK: usize = 18446744073709551615;

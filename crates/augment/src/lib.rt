@@ -2,9 +2,7 @@
 #![tactic(auto)]
 
 mod exit;
-pub mod hints;
 mod open;
 pub mod push;
 mod residual;
-pub mod scratch;
 pub mod tree;

@@ -3,7 +3,6 @@ ghost use Rattle.std.specs.Prelude.{◌≡◌, ◌+◌, ◌-◌, ◌≤◌, ◌<
 ghost use Rattle.graph.specs.Rows.{at};
 ghost use Rattle.augment.specs.Search.{LeavesAt, OpenIs};
 
-use crate::hints::Side;
 use crate::residual::Residual;
 use relaxation::arcs::{next_link, read_link};
 use relaxation::net::Links;
@@ -22,6 +21,13 @@ fn tail_miss(rf: usize, f: usize) -> usize
     ensures { result ≡ max rf (1 - min f 1) }
 {
     rf.max(1 - f.min(1))
+}
+
+// Which end of a marked node's edges is sought: the heads of those out of it, or the tails of those into it.
+#[derive(Clone, Copy, Debug, PartialEq, Eq)]
+pub enum Side {
+    Heads,
+    Tails,
 }
 
 // A place in the queue, and a link of that node's list; 0 where the list is to be read from its start.

@@ -4,8 +4,8 @@ ghost use Rattle.graph.specs.Rows.{at};
 ghost use Rattle.buffers.specs.Written.{word_limit};
 ghost use Rattle.augment.specs.Push.{Steps, Pushable, Pushed};
 
-use crate::scratch::Tree;
 use relaxation::net::Arcs;
+use relaxation::scratch::Tree;
 
 // A step of d over the parent edge of cur.
 pub fn step_back(

@@ -9,10 +9,9 @@ ghost use Rattle.relaxation.specs.Network.{Narrow, Lengths};
 ghost use Rattle.augment.specs.Search.{Fits, Marks, Raised, Planted, Grown};
 
 use crate::exit::{Search, next_exit};
-use crate::hints::Hints;
-use crate::scratch::Tree;
 use relaxation::arcs::put_node;
 use relaxation::net::Arcs;
+use relaxation::scratch::{Hints, Tree};
 use transport::stock::Stock;
 
 // The far end of edge a marked.

@@ -8,12 +8,11 @@ ghost use Rattle.drain.specs.Drain.{Sendable, Sent, Drained, Picks, NextSupply, 
 ghost use Rattle.relaxation.specs.Limits.{calm_limit};
 ghost use Rattle.relaxation.specs.Network.{Lengths};
 
-use augment::hints::Hints;
 use augment::push::push_flow;
-use augment::scratch::Tree;
 use augment::tree::{grow_tree, plant_root};
 use relaxation::low::lower_rows;
 use relaxation::net::Net;
+use relaxation::scratch::{Hints, Tree};
 use transport::stock::Stock;
 
 // As much as can come to node t and t wants, sent there from node s over the tree; what s has still to send.
