@@ -4,9 +4,9 @@ ghost use Rattle.graph.specs.Rows.{at};
 ghost use Rattle.relaxation.specs.Certificate.{Held};
 ghost use Rattle.augment.specs.Search.{SlackIs, SlackIsAt, LeastIs};
 
-use crate::open::{Cursor, Side};
+use crate::open::Cursor;
 use crate::residual::Residual;
-use relaxation::net::Arcs;
+use relaxation::net::{Arcs, Side};
 use relaxation::scratch::{Hints, Tree};
 
 // The slack that stands for no edge at all: a number, so that one comparison tells which of two slacks is the least.

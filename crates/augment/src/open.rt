@@ -5,7 +5,7 @@ ghost use Rattle.augment.specs.Search.{LeavesAt, OpenIs};
 
 use crate::residual::Residual;
 use relaxation::arcs::{next_link, read_link};
-use relaxation::net::Links;
+use relaxation::net::{Links, Side};
 
 // 0 where an edge to a node of rank rt, from row lo with gap g to row hi, leads out of the marked set and has no slack. The two are told
 // by one number, so that one branch depends on it.
@@ -21,13 +21,6 @@ fn tail_miss(rf: usize, f: usize) -> usize
     ensures { result ≡ max rf (1 - min f 1) }
 {
     rf.max(1 - f.min(1))
-}
-
-// Which end of a marked node's edges is sought: the heads of those out of it, or the tails of those into it.
-#[derive(Clone, Copy, Debug, PartialEq, Eq)]
-pub enum Side {
-    Heads,
-    Tails,
 }
 
 // A place in the queue, and a link of that node's list; 0 where the list is to be read from its start.

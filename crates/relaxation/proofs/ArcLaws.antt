@@ -27,6 +27,7 @@ module _ (ends : List ℕ) (start : ArcLists) (a : ℕ) (now : ArcLists) (whole 
   pub linking-ends : length ends ≤ a → now ≡ link_from 0 ends start
   linking-ends h = sym (whole ∙ linking-none ends a now h)
 
--- from empty lists on
-pub linking-cleared : (ends next : List ℕ) {head blank : List ℕ} → blank ≡ head → link_from 0 ends (lists_of head next) ≡ link_from 0 ends (lists_of blank next)
-linking-cleared ends next e = ap (λ (t : List ℕ). link_from 0 ends (lists_of t next)) (sym e)
+-- where the first links were set to others before
+pub linking-cleared : (ends next : List ℕ) {head blank : List ℕ} {after : ArcLists} → head ≡ blank → after ≡ link_from 0 ends (lists_of head next)
+    → after ≡ link_from 0 ends (lists_of blank next)
+linking-cleared ends next e k = k ∙ ap (λ (t : List ℕ). link_from 0 ends (lists_of t next)) e

@@ -4,30 +4,37 @@
 // the order in which they were marked. All of it is a hint: whatever the entries are, an edge that is found is looked at before it is used,
 // and a look at every edge follows where none is found. So nothing is required of these buffers.
 ghost use Rattle.std.specs.Prelude.{◌≡◌, ◌≤◌, set};
-ghost use Rattle.relaxation.specs.Arcs.{lists_of, link_one, link_all, link_at};
+ghost use Rattle.relaxation.specs.Arcs.{lists_of, link_one, link_from, link_all, link_at};
 
 use crate::net::{Arcs, Links};
 
-impl Links<'_> {
-    // Edge a put in front of the list of node v.
-    #[tactic(auto, unfolding(crate::specs::Arcs::link_one))]
-    fn link_edge(&mut self, v: usize, a: usize)
-        ensures { lists_of self.new.head.now self.new.next.now ≡ link_one v a (lists_of self.old.head.now self.old.next.now) }
-    {
-        if v < self.head.len() && a < self.next.len() {
-            self.next[a] = self.head[v];
-            self.head[v] = a + 1;
-        }
+// Edge a put in front of the list of node v.
+#[tactic(auto, unfolding(crate::specs::Arcs::link_one))]
+fn link_edge(head: &mut [usize], next: &mut [usize], v: usize, a: usize)
+    ensures { lists_of head.new next.new ≡ link_one v a (lists_of head.old next.old) }
+{
+    if v < head.len() && a < next.len() {
+        next[a] = head[v];
+        head[v] = a + 1;
     }
+}
 
-    // The edges in the lists of their nodes at one end.
+// The edges put in the lists of their nodes at one end. The two slices come apart, so that none is read anew at each edge.
+fn link_ends(ends: &[usize], head: &mut [usize], next: &mut [usize])
+    ensures { lists_of head.new next.new ≡ link_from 0 ends.now (lists_of head.old next.old) }
+{
+    for (a, &v) in ends.iter().enumerate() {
+        link_edge(head, next, v, a);
+    }
+}
+
+impl Links<'_> {
+    // The lists of the edges by their nodes at one end.
     pub fn link_edges(&mut self, ends: &[usize])
         ensures { lists_of self.new.head.now self.new.next.now ≡ link_all ends.now self.old.head.now self.old.next.now }
     {
         self.head.fill(0);
-        for (a, &v) in ends.iter().enumerate() {
-            self.link_edge(v, a);
-        }
+        link_ends(ends, self.head, self.next);
     }
 }
 

@@ -1,11 +1,5 @@
 use Rattle.relaxation.proofs.ArcLaws as laws
 use Rattle.relaxation.proofs.net.Links.link_edges.Goals as goal
 
-pub loop-a-init : goal.loop-a-init
-loop-a-init c = laws.linking-cleared _ _ (c.fill.ensures.after λ y e. e)
-
-pub loop-a-preserved : goal.loop-a-preserved
-loop-a-preserved c = laws.linking-more _ _ _ _ c.loop-a.invariant _ c.loop-a-test.true c.link_edge.ensures
-
 pub returns : goal.returns
-returns c = laws.linking-ends _ _ _ _ c.loop-a.invariant c.loop-a-test.false
+returns c = laws.linking-cleared _ _ (c.fill.ensures.after λ y e. e) c.link_ends.ensures
