@@ -49,8 +49,8 @@ pub fn raise_marked(y: &mut [usize], tree: &Tree<'_>, n: usize, d: usize)
     if d == 0 {
         return;
     }
-    for v in 0..n {
-        if tree.rank[v] > 0 {
+    for (v, &rank) in tree.rank[..n].iter().enumerate() {
+        if rank > 0 {
             y[v] += d;
         }
     }
