@@ -1,27 +1,28 @@
 // Rows of edges: a loop is refused, and the solver finds the rows of any other edges.
 ghost use Rattle.std.specs.Prelude.{◌≡◌, ◌≤◌, length, take};
 ghost use Rattle.buffers.specs.Padded.{padded};
-ghost use Rattle.relaxation.specs.Network.{edges_of, Network, Bounded};
-ghost use Rattle.relaxation.specs.Limits.{row_limit};
-ghost use Rattle.table.specs.Limits.{max_steps, max_edges};
+ghost use Rattle.relaxation.specs.Network.{edges_of};
+ghost use Rattle.table.specs.Limits.{max_steps};
 ghost use Rattle.flatten.specs.Flat.{Even};
-ghost use Rattle.rows.specs.Placed.{FairEdges, SolvedRows, EdgesPlaced};
+ghost use Rattle.rows.specs.Placed.{FairEdges, EdgesPlaced};
 
 use acyclic::find_loop;
 use acyclic::settle::Found;
 use buffers::copy_front;
+use network::best_rows;
 use outcome::{Refusal, Verdict};
+use relaxation::net::{Arcs, Net};
 use rows::refuse_rows;
 use rows::total::total_rows;
 use rows::types::RowsFound;
 use table::limits::{MAX_EDGES, MAX_GAP, MAX_STEPS};
 
 // The rows of edges in flat slices, between n steps.
-pub fn place_flat(
-    from: &[usize],
-    to: &[usize],
-    gap: &[usize],
-    weight: &[usize],
+pub fn place_flat<'a>(
+    from: &'a [usize],
+    to: &'a [usize],
+    gap: &'a [usize],
+    weight: &'a [usize],
     n: usize,
 ) -> RowsFound
     requires fair_edges { FairEdges n (edges_of from.now to.now gap.now weight.now) }
@@ -33,7 +34,10 @@ pub fn place_flat(
     match find_loop(from, to, gap, n, MAX_STEPS * MAX_GAP, &mut y, &mut seen) {
         Found::At(s) => refuse_rows(Refusal::Loop(s)),
         Found::Nothing => {
-            let rows = solve_rows(from, to, gap, weight, n, y);
+            // the solver begins at the rows that settled
+            let arcs = Arcs { from, to, gap, n };
+            best_rows::<MAX_STEPS, MAX_EDGES>(&Net { arcs, weight }, &mut y);
+            let rows = pad_rows(y, n);
             let total = total_rows(from, to, weight, &rows[..n]);
             RowsFound {
                 verdict: Verdict::Accepted,
@@ -42,58 +46,6 @@ pub fn place_flat(
             }
         }
     }
-}
-
-// The best rows of edges that some rows keep. The solver begins at the rows that settled, and all else is its scratch.
-fn solve_rows(
-    from: &[usize],
-    to: &[usize],
-    gap: &[usize],
-    weight: &[usize],
-    n: usize,
-    settled: [usize; MAX_STEPS],
-) -> [usize; MAX_STEPS]
-    requires network { Network from.now to.now gap.now weight.now n }
-    requires bounded { Bounded from.now to.now gap.now n row_limit }
-    requires n_le_max_steps { (n ≤ max_steps) × (length from.now ≤ max_edges) }
-    requires settled_len { length settled ≡ max_steps }
-    ensures { SolvedRows n (edges_of from.now to.now gap.now weight.now) result }
-{
-    let m = from.len();
-    let mut y = settled;
-    let mut flow = [0usize; MAX_EDGES];
-    let mut rank = [0usize; MAX_STEPS];
-    let mut parent = [0usize; MAX_STEPS];
-    let mut capacity = [0usize; MAX_STEPS];
-    let mut supply = [0usize; MAX_STEPS];
-    let mut demand = [0usize; MAX_STEPS];
-    let mut out_head = [0usize; MAX_STEPS];
-    let mut out_next = [0usize; MAX_EDGES];
-    let mut in_head = [0usize; MAX_STEPS];
-    let mut in_next = [0usize; MAX_EDGES];
-    let mut queue = [0usize; MAX_STEPS];
-    let mut lowest = [0usize; MAX_STEPS];
-    network::solve(
-        from,
-        to,
-        gap,
-        weight,
-        n,
-        &mut y,
-        &mut flow[..m],
-        &mut rank[..n],
-        &mut parent[..n],
-        &mut capacity[..n],
-        &mut supply[..n],
-        &mut demand[..n],
-        &mut out_head,
-        &mut out_next,
-        &mut in_head,
-        &mut in_next,
-        &mut queue,
-        &mut lowest[..n],
-    );
-    pad_rows(y, n)
 }
 
 // The first n rows in an array, whose others are 0.
