@@ -74,6 +74,10 @@ stored-all {l} {l'} {vs} e s =
     sym (take_all (length vs) l' (omega (arith, ap length s.holds, written-length l 0 vs)))
     ∙ ap (take (length vs)) s.holds ∙ written-take l vs (omega arith)
 
+-- a list copied over the front is stored there
+pub stored-front : (l vs : List ℕ) {front : List ℕ} → length vs ≤ length l → front ≡ vs → Stored l 0 vs (front ++ drop (length vs) l) (length vs)
+stored-front l vs h e = record { holds = ap (λ (f : List ℕ). f ++ drop (length vs) l) e ∙ sym (written_is l vs h); counts = omega arith }
+
 -- ---- on the way
 
 -- A list that goes into a buffer from entry i on, part by part: to write the rest, from entry p on, would complete it. Loops that

@@ -11,19 +11,14 @@ pub fn clear_first(s: &mut [usize], n: usize)
     requires { n ≤ length s.old }
     ensures { s.new ≡ replicate n 0 ++ drop n s.old }
 {
-    let mut i = 0;
-    while i < n {
-        s[i] = 0;
-        i += 1;
-    }
+    s[..n].fill(0);
 }
 
 // Every entry set to 0.
 pub fn clear_all(s: &mut [usize])
     ensures { s.new ≡ replicate (length s.old) 0 }
 {
-    let n = s.len();
-    clear_first(s, n);
+    s.fill(0);
 }
 
 // Every entry copied to a slice as long.
@@ -31,7 +26,7 @@ pub fn copy_all(values: &[usize], out: &mut [usize])
     requires { length out.old ≡ length values.now }
     ensures { out.new ≡ values.now }
 {
-    copy_front(values, out);
+    out.copy_from_slice(values);
 }
 
 // Every entry copied to the front of a slice. Answers how many they are.
@@ -39,9 +34,7 @@ pub fn copy_front(values: &[usize], out: &mut [usize]) -> usize
     requires { length values.now ≤ length out.old }
     ensures { Stored out.old 0 values.now out.new result }
 {
-    for i in 0..values.len() {
-        out[i] = values[i];
-    }
+    out[..values.len()].copy_from_slice(values);
     values.len()
 }
 
@@ -52,8 +45,8 @@ pub fn store_u16(values: &[usize], n: usize, out: &mut [u16])
     requires by_index { (i : ℕ) → i < n → at values.now i < 0x10000 }
     ensures { out.new ≡ take n values.now ++ drop n out.old }
 {
-    for i in 0..n {
-        out[i] = values[i] as u16;
+    for (i, &value) in values[..n].iter().enumerate() {
+        out[i] = value as u16;
     }
 }
 
@@ -61,20 +54,14 @@ pub fn store_u16(values: &[usize], n: usize, out: &mut [u16])
 pub fn larger_of(a: usize, b: usize) -> usize
     ensures { result ≡ max a b }
 {
-    if a < b {
-        return b;
-    }
-    a
+    a.max(b)
 }
 
 // The smaller of two.
 pub fn smaller_of(a: usize, b: usize) -> usize
     ensures { result ≡ min a b }
 {
-    if a < b {
-        return a;
-    }
-    b
+    a.min(b)
 }
 
 // The first n entries of xs copied to y.
@@ -83,21 +70,14 @@ pub fn copy_first(xs: &[usize], y: &mut [usize], n: usize)
     requires n_in_bounds_2 { n ≤ length y.old }
     ensures { y.new ≡ take n xs.now ++ drop n y.old }
 {
-    let mut k = 0;
-    while k < n {
-        y[k] = xs[k];
-        k += 1;
-    }
+    y[..n].copy_from_slice(&xs[..n]);
 }
 
 // Entry i, or 0 where there is none.
 pub fn read_entry(xs: &[usize], i: usize) -> usize
     ensures { result ≡ at xs.now i }
 {
-    if i < xs.len() {
-        return xs[i];
-    }
-    0
+    xs.get(i).copied().unwrap_or(0)
 }
 
 // d taken off entry i; what is left there.

@@ -5,3 +5,4 @@ pub mod arcs;
 pub mod low;
 pub mod net;
 pub mod relax;
+pub mod scratch;

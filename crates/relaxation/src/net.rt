@@ -11,6 +11,13 @@ pub struct Arcs<'a> {
     ghost shaped: { Shaped from.now to.now gap.now n },
 }
 
+// Which end of a node's edges is sought: the heads of those out of it, or the tails of those into it.
+#[derive(Clone, Copy, Debug, PartialEq, Eq)]
+pub enum Side {
+    Heads,
+    Tails,
+}
+
 // Edges, and what each row of their length costs: all that the solver asks of a network holds of them.
 #[derive(Clone, Copy)]
 pub struct Net<'a> {

@@ -17,6 +17,8 @@ ghost use Rattle.spacing.specs.Flat.{Spaceable, FoundX, NetworkSolved};
 use crate::limits::{MAX_LINKS, MAX_NODES};
 use crate::link::{link_points, link_segments};
 use crate::links::Links;
+use network::best_rows;
+use relaxation::net::{Arcs, Net};
 
 // The best x of the points of an order, one flat list of rows; `row` has the row of each point, the others the ends and the cost of each
 // segment. They are the first entries of the answer, one a point.
@@ -42,12 +44,12 @@ pub fn find_x(
     )
 }
 
-// The best rows of a network that some rows keep. All but the rows is scratch of the solver.
-fn solve_links(
-    from: &[usize],
-    to: &[usize],
-    gap: &[usize],
-    weight: &[usize],
+// The best rows of a network that some rows keep.
+fn solve_links<'a>(
+    from: &'a [usize],
+    to: &'a [usize],
+    gap: &'a [usize],
+    weight: &'a [usize],
     n: usize,
 ) -> [usize; MAX_NODES]
     requires network { Network from.now to.now gap.now weight.now n }
@@ -55,39 +57,8 @@ fn solve_links(
     requires n_le_max_nodes { (n ≤ max_nodes) × (length from.now ≤ max_links) }
     ensures { NetworkSolved n from.now to.now gap.now weight.now result }
 {
-    let m = from.len();
+    let arcs = Arcs { from, to, gap, n };
     let mut y = [0usize; MAX_NODES];
-    let mut flow = [0usize; MAX_LINKS];
-    let mut rank = [0usize; MAX_NODES];
-    let mut parent = [0usize; MAX_NODES];
-    let mut capacity = [0usize; MAX_NODES];
-    let mut supply = [0usize; MAX_NODES];
-    let mut demand = [0usize; MAX_NODES];
-    let mut out_head = [0usize; MAX_NODES];
-    let mut out_next = [0usize; MAX_LINKS];
-    let mut in_head = [0usize; MAX_NODES];
-    let mut in_next = [0usize; MAX_LINKS];
-    let mut queue = [0usize; MAX_NODES];
-    let mut lowest = [0usize; MAX_NODES];
-    network::solve(
-        from,
-        to,
-        gap,
-        weight,
-        n,
-        &mut y,
-        &mut flow[..m],
-        &mut rank[..n],
-        &mut parent[..n],
-        &mut capacity[..n],
-        &mut supply[..n],
-        &mut demand[..n],
-        &mut out_head,
-        &mut out_next,
-        &mut in_head,
-        &mut in_next,
-        &mut queue,
-        &mut lowest[..n],
-    );
+    best_rows::<MAX_NODES, MAX_LINKS>(&Net { arcs, weight }, &mut y);
     y
 }

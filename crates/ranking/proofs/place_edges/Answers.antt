@@ -21,8 +21,8 @@ returns-in-Some c =
     let e = c.arcs.ensures in
     placed-loop _ _ _ _ _ c.requires c.args.flat.now.even _ (rw (e.from, e.to, e.gap, e.nodes) at c.find_loop.ensures) c.in-Some.is
 
-pub solve_rows-requires-clause-bounded : goal.solve_rows-requires-clause-bounded
-solve_rows-requires-clause-bounded c =
+pub best_rows-requires-clause-bounded : goal.best_rows-requires-clause-bounded
+best_rows-requires-clause-bounded c =
     let e = c.arcs.ensures in
     rw (e.from, e.to, e.gap, e.nodes) (fair-bounded _ _ _ _ _ c.requires c.args.flat.now.even _ (rw (e.from, e.to, e.gap, e.nodes) at c.find_loop.ensures) c.in_default.is)
 
@@ -30,19 +30,19 @@ pub total_rows-total-requires : goal.total_rows-total-requires
 total_rows-total-requires c =
     let f = c.args.flat.now in
     let e = c.arcs.ensures in
-    let best = kept-best (rw (e.from, e.to, e.gap, e.nodes, c.deref.ensures.0) at c.solve_rows.ensures) c.from-rows.ensures.0 c.truncate.ensures.items in
+    let best = kept-best (rw (e.from, e.to, e.gap, e.nodes, c.deref.ensures.0) at c.best_rows.ensures.1.best) c.from-rows.ensures.0 c.truncate.ensures.items in
     rw (c.deref-2.ensures.0, c.deref-3.ensures.0, c.deref-4.ensures.0, c.deref-5.ensures.0) (best-summable _ _ _ _ _ c.requires f.even _ best)
 
 pub invariant_of-result : goal.invariant_of-result
 invariant_of-result c =
     let e = c.arcs.ensures in
-    let best = kept-best (rw (e.from, e.to, e.gap, e.nodes, c.deref.ensures.0) at c.solve_rows.ensures) c.from-rows.ensures.0 c.truncate.ensures.items in
+    let best = kept-best (rw (e.from, e.to, e.gap, e.nodes, c.deref.ensures.0) at c.best_rows.ensures.1.best) c.from-rows.ensures.0 c.truncate.ensures.items in
     record { low = best-low _ _ _ c.requires best }
 
 pub returns : goal.returns
 returns c =
     let e = c.arcs.ensures in
-    let best = kept-best (rw (e.from, e.to, e.gap, e.nodes, c.deref.ensures.0) at c.solve_rows.ensures) c.from-rows.ensures.0 c.truncate.ensures.items in
+    let best = kept-best (rw (e.from, e.to, e.gap, e.nodes, c.deref.ensures.0) at c.best_rows.ensures.1.best) c.from-rows.ensures.0 c.truncate.ensures.items in
     record {
       says = placed-free _ _ _ _ _ c.requires c.args.flat.now.even _ (rw (e.from, e.to, e.gap, e.nodes) at c.find_loop.ensures) c.in_default.is _ best;
       placed = record {
