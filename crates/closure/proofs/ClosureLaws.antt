@@ -7,7 +7,8 @@ use Prim.Native.Nat.{ℕ, zero, suc, ◌+◌, ◌*◌, ◌<◌}
 use native.Mathlib.Nat.{le_of_suc-le-suc}
 use native.Mathlib.Decide.{ℕ_discrete}
 use native.Mathlib.Omega.{arith}
-use lib.ListN.{get_or, replicate}
+use lib.ListN.{get_or, take, replicate}
+use lib.Seq.{get_or-take}
 use Rattle.graph.specs.declared.Edge.{Edge}
 use Rattle.graph.specs.Rows.{Within}
 use Rattle.buffers.proofs.ListLaws.{blank-at}
@@ -48,6 +49,14 @@ fresh-onward n stand b reach fresh f r =
     back v h w (yes e) = subst (λ (k : ℕ). Marked fresh k) (sym e) f.own
     back v h (inl e) (no ne) = absurd (ne (sym e))
     back v h (inr w) (no ne) = f.other v h ne ∙ r.full v h w
+
+-- so are the marks of its first n entries
+onward-part : {n : ℕ} {stand : List Edge} {b : ℕ} {fresh : List Bool} → OnwardMarks n stand b fresh → OnwardMarks n stand b (take n fresh)
+onward-part {n} {stand} {b} {fresh} o =
+    record {
+      sound = λ v h p. o.sound v h (sym (get_or-take n fresh v false h) ∙ p);
+      full = λ v h w. get_or-take n fresh v false h ∙ o.full v h w;
+    }
 
 -- A walk with the new edge goes without it, or without it to the edge's tail and without it on from its head. So row u has nothing new where
 -- it marks the edge's head already, for it then has all that is onward from there; nor where u is not the tail and does not lead to it. In
@@ -189,13 +198,13 @@ module _ (n a b : ℕ) (old : List Bool) (in-a : a < n) (in_b : b < n) where
           along = subst (Walk stand e.from) (sym t) (subst (λ (k : ℕ). Walk stand k b) (sym f) ((c.row a in-a).sound b in_b p))
 
   -- else every row is extended
-  pub added_new : {fresh new : List Bool} → Fresh n b old fresh → Extended n a b n fresh old new → Added n a b old new
+  pub added_new : {fresh new : List Bool} → Fresh n b old fresh → Extended n a b n (take n fresh) old new → Added n a b old new
   added_new {fresh} {new} f x =
       record {
         long = x.long;
         closure = λ stand e s t c.
             record {
-              row = λ u h. x.rows stand e s t (fresh-onward n stand b old fresh f (c.row b in_b)) u h h (c.row u h);
+              row = λ u h. x.rows stand e s t (onward-part (fresh-onward n stand b old fresh f (c.row b in_b))) u h h (c.row u h);
               within = within_more e stand (omega arith) (omega arith) c.within;
             };
       }

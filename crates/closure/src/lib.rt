@@ -51,7 +51,7 @@ impl Walks {
             return;
         }
         let fresh = self.onward_from(b);
-        self.extend_rows(&fresh, a, b);
+        self.extend_rows(&fresh[..self.n], a, b);
     }
 
     // The marks of b itself and of row b.
@@ -69,7 +69,7 @@ impl Walks {
 
     // Every row extended by the edge from a to b. The marks that are new come from a copy of row b, since row b may itself be extended.
     fn extend_rows(&mut self, fresh: &[bool], a: usize, b: usize)
-        requires long { length fresh.now ≡ max_steps }
+        requires long { length fresh.now ≡ self.old.n }
         requires ends { (a < self.old.n) × (b < self.old.n) }
         ensures nodes { self.new.n ≡ self.old.n }
         ensures extended { Extended self.old.n a b self.old.n fresh.now self.old.marks self.new.marks }
@@ -79,21 +79,23 @@ impl Walks {
         }
     }
 
-    // Row u extended by the edge from a to b, if u is a or leads to it. A row that marks b marks all that is onward from b already.
+    // Row u extended by the edge from a to b, if u is a or leads to it. A row that marks b marks all that is onward from b already. The
+    // number of nodes is the length of `fresh`, which stays in a register where `self.n` would be read again for each row.
     fn extend_row(&mut self, fresh: &[bool], a: usize, b: usize, u: usize)
-        requires long { length fresh.now ≡ max_steps }
+        requires long { length fresh.now ≡ self.old.n }
         requires ends { (a < self.old.n) × (b < self.old.n) × (u < self.old.n) }
         ensures nodes { self.new.n ≡ self.old.n }
         ensures extended { RowExtended self.old.n a b u fresh.now self.old.marks self.new.marks }
     {
-        if self.leads(u, b) {
+        let n = fresh.len();
+        let base = u * n;
+        if self.marks[base + b] {
             return;
         }
-        if u != a && !self.leads(u, a) {
+        if u != a && !self.marks[base + a] {
             return;
         }
-        let base = u * self.n;
-        mark_row(&mut self.marks[base..base + self.n], fresh);
+        mark_row(&mut self.marks[base..base + n], fresh);
     }
 }
 

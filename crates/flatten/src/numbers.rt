@@ -11,7 +11,8 @@ use table::limits::MAX_EDGES;
 // How many numbers make an edge.
 pub const FIELDS: usize = 4;
 
-// The edges that the numbers write down. Of more than the limit none is read.
+// The edges that the numbers write down. Of more than the limit none is read. They are read by their number, which tells the place of their
+// numbers; the library has no law of slices cut into fours.
 pub fn flatten_numbers(numbers: &[usize]) -> Flat
     ensures { flat_edges result ≡ copied (records_of numbers.now) }
 {

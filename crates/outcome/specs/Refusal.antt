@@ -1,5 +1,7 @@
 -- The refusals of documents 01 and 02 and their numbers, and the outcome of a call.
-use Rattle.std.specs.Prelude.{Bool, true, false, List, [], ◌∷◌, ℕ, get_or, Result, Ok, Err}
+use Rattle.std.specs.Prelude.{Bool, true, false, List, [], ◌∷◌, ℕ, get_or, map, Result, Ok, Err}
+use Rattle.std.specs.List.{join_with_byte}
+use Rattle.std.specs.Fmt.{decimal}
 use Rattle.outcome.specs.declared.Refusal.{Refusal}
 use Rattle.outcome.specs.declared.Verdict.{Verdict}
 use Rattle.outcome.specs.declared.Verdict.TheVariants.{Accepted, Refused}
@@ -32,6 +34,10 @@ number_of r = get_or (numbers_of r) 0 0
 -- the step that comes with a loop; 0 with any other refusal
 abbrev pub step_of : Refusal → ℕ
 step_of r = get_or (numbers_of r) 1 0
+
+-- what is printed of a refusal: its numbers in decimal, with a blank between two
+abbrev pub shown : Refusal → List ℕ
+shown r = join_with_byte 0x20 (map decimal (numbers_of r))
 
 -- what a call makes of its input: an answer or a refusal
 pub data Outcome (A : Type 0) : Type 0 where

@@ -4,6 +4,8 @@
 ghost use Rattle.std.specs.Prelude.{◌≡◌};
 ghost use Rattle.outcome.specs.Refusal.{number_of};
 
+use std::fmt;
+
 // Why a call is turned down; `numbers_of` in specs/Refusal.antt gives each case its number.
 #[derive(Clone, Copy, Debug, PartialEq, Eq)]
 pub enum Refusal {
@@ -64,6 +66,22 @@ impl Refusal {
             Refusal::LargeChart => 16,
             Refusal::BadRow => 17,
             Refusal::ManyTries => 18,
+        }
+    }
+}
+
+// What is printed of a refusal: its number, and with a loop the step.
+impl fmt::Display for Refusal {
+    ghost use Rattle.std.specs.Prelude.{Some};
+    ghost use Rattle.outcome.specs.Refusal.{shown};
+
+    ghost output = { λ r. Some (shown r) };
+
+    fn fmt<W: fmt::Write>(&self, f: &mut fmt::Formatter<W>) -> fmt::Result {
+        let number = self.number();
+        match self {
+            Refusal::Loop(step) => write!(f, "{number} {step}"),
+            _ => write!(f, "{number}"),
         }
     }
 }
