@@ -12,18 +12,57 @@ ghost use Rattle.points.specs.Points.{point_rows, chain, segments, row_count};
 ghost use Rattle.points.specs.Laying.{edges_between, size_limit, Chart, uppers, lowers};
 ghost use Rattle.buffers.specs.Written.{word_limit, Stored};
 
-use buffers::{copy_front, larger_of};
+use buffers::copy_front;
 
-// How many points there are: the nodes, and on each edge one dummy fewer than its length.
-pub fn count_points(rows: &[usize], from: &[usize], to: &[usize]) -> usize
-    requires { Chart rows.now from.now to.now }
-    ensures { result ≡ length (point_rows rows.now (edges_between from.now to.now)) }
-{
-    let mut count = rows.len();
-    for i in 0..from.len() {
-        count += count_between(rows, from[i], to[i]);
+// A chart: the rows of its nodes, and its edges by the lists of their ends.
+#[derive(Clone, Copy)]
+pub struct Layout<'a> {
+    pub rows: &'a [usize],
+    pub from: &'a [usize],
+    pub to: &'a [usize],
+    pub ghost chart: { Chart rows.now from.now to.now },
+}
+
+impl Layout<'_> {
+    // How many points there are: the nodes, and on each edge one dummy fewer than its length.
+    pub fn count_points(&self) -> usize
+        ensures { result ≡ length (point_rows self.now.rows.now (edges_between self.now.from.now self.now.to.now)) }
+    {
+        let mut count = self.rows.len();
+        for (&a, &b) in self.from.iter().zip(self.to) {
+            count += count_between(self.rows, a, b);
+        }
+        count
     }
-    count
+
+    // The row of each point: of the nodes, and then of the dummies by edge. Answers how many there are.
+    pub fn lay_rows(&self, row: &mut [usize]) -> usize
+        requires { length (point_rows self.now.rows.now (edges_between self.now.from.now self.now.to.now)) ≤ length row.old }
+        ensures { Stored row.old 0 (point_rows self.now.rows.now (edges_between self.now.from.now self.now.to.now)) row.new result }
+    {
+        let mut p = copy_front(self.rows, row);
+        for (&a, &b) in self.from.iter().zip(self.to) {
+            p = lay_dummies(self.rows[a], self.rows[b], row, p);
+        }
+        p
+    }
+
+    // The ends of each segment, by edge and then downwards. Answers how many segments there are.
+    pub fn lay_segments(&self, upper: &mut [usize], lower: &mut [usize]) -> usize
+        requires upper_room { length (segments self.now.rows.now (edges_between self.now.from.now self.now.to.now)) ≤ length upper.old }
+        requires lower_room { length (segments self.now.rows.now (edges_between self.now.from.now self.now.to.now)) ≤ length lower.old }
+        ensures stored { Stored upper.old 0 (uppers (segments self.now.rows.now (edges_between self.now.from.now self.now.to.now))) upper.new result }
+        ensures stored_2 { Stored lower.old 0 (lowers (segments self.now.rows.now (edges_between self.now.from.now self.now.to.now))) lower.new result }
+    {
+        let mut d = self.rows.len();
+        let mut s = 0;
+        for (&a, &b) in self.from.iter().zip(self.to) {
+            let k = count_between(self.rows, a, b);
+            s = lay_chain(a, b, d, k, upper, lower, s);
+            d += k;
+        }
+        s
+    }
 }
 
 // How many dummies an edge from node a to node b has.
@@ -34,19 +73,6 @@ pub fn count_between(rows: &[usize], a: usize, b: usize) -> usize
     ensures { result ≡ at rows.now b - at rows.now a - 1 }
 {
     rows[b] - rows[a] - 1
-}
-
-// The row of each point: of the nodes, and then of the dummies by edge. Answers how many there are.
-pub fn lay_rows(rows: &[usize], from: &[usize], to: &[usize], row: &mut [usize]) -> usize
-    requires chart { Chart rows.now from.now to.now }
-    requires to_in_bounds { length (point_rows rows.now (edges_between from.now to.now)) ≤ length row.old }
-    ensures { Stored row.old 0 (point_rows rows.now (edges_between from.now to.now)) row.new result }
-{
-    let mut p = copy_front(rows, row);
-    for i in 0..from.len() {
-        p = lay_dummies(rows[from[i]], rows[to[i]], row, p);
-    }
-    p
 }
 
 // The rows of the dummies of an edge from row `top` to row `bottom`, from point `at` on.
@@ -61,30 +87,6 @@ fn lay_dummies(top: usize, bottom: usize, row: &mut [usize], at: usize) -> usize
         p += 1;
     }
     p
-}
-
-// The ends of each segment, by edge and then downwards. Answers how many segments there are.
-pub fn lay_segments(
-    rows: &[usize],
-    from: &[usize],
-    to: &[usize],
-    upper: &mut [usize],
-    lower: &mut [usize],
-) -> usize
-    requires chart { Chart rows.now from.now to.now }
-    requires to_in_bounds { length (segments rows.now (edges_between from.now to.now)) ≤ length upper.old }
-    requires to_in_bounds_2 { length (segments rows.now (edges_between from.now to.now)) ≤ length lower.old }
-    ensures stored { Stored upper.old 0 (uppers (segments rows.now (edges_between from.now to.now))) upper.new result }
-    ensures stored_2 { Stored lower.old 0 (lowers (segments rows.now (edges_between from.now to.now))) lower.new result }
-{
-    let mut d = rows.len();
-    let mut s = 0;
-    for i in 0..from.len() {
-        let k = count_between(rows, from[i], to[i]);
-        s = lay_chain(from[i], to[i], d, k, upper, lower, s);
-        d += k;
-    }
-    s
 }
 
 // The segments from point a to point b over k dummies, which are numbered from d on, from entry `at` on.
@@ -122,8 +124,8 @@ pub fn count_rows(rows: &[usize]) -> usize
     ensures { result ≡ row_count rows.now }
 {
     let mut count = 0;
-    for i in 0..rows.len() {
-        count = larger_of(rows[i] + 1, count);
+    for &row in rows {
+        count = count.max(row + 1);
     }
     count
 }
