@@ -75,18 +75,25 @@ pub fn count_between(rows: &[usize], a: usize, b: usize) -> usize
     rows[b] - rows[a] - 1
 }
 
+// The numbers from `first` on, one after another.
+fn number_from(first: usize, part: &mut [usize])
+    requires { first + length part.old < word_limit }
+    ensures { part.new ≡ run first (length part.old) }
+{
+    for (i, place) in part.iter_mut().enumerate() {
+        *place = first + i;
+    }
+}
+
 // The rows of the dummies of an edge from row `top` to row `bottom`, from point `at` on.
 fn lay_dummies(top: usize, bottom: usize, row: &mut [usize], at: usize) -> usize
     requires top_lt_bottom { top < bottom }
     requires top_in_bounds { at + (bottom - top - 1) ≤ length row.old }
     ensures { Stored row.old at (run (suc top) (bottom - top - 1)) row.new result }
 {
-    let mut p = at;
-    for r in top + 1..bottom {
-        row[p] = r;
-        p += 1;
-    }
-    p
+    let end = at + (bottom - top - 1);
+    number_from(top + 1, &mut row[at..end]);
+    end
 }
 
 // The segments from point a to point b over k dummies, which are numbered from d on, from entry `at` on.
@@ -105,17 +112,12 @@ fn lay_chain(
     ensures stored { Stored upper.old at (uppers (chain a b d k)) upper.new result }
     ensures stored_2 { Stored lower.old at (lowers (chain a b d k)) lower.new result }
 {
-    let mut s = at;
-    let mut last = a;
-    for p in d..d + k {
-        upper[s] = last;
-        lower[s] = p;
-        last = p;
-        s += 1;
-    }
-    upper[s] = last;
-    lower[s] = b;
-    s + 1
+    let last = at + k;
+    upper[at] = a;
+    number_from(d, &mut upper[at + 1..last + 1]);
+    number_from(d, &mut lower[at..last]);
+    lower[last] = b;
+    last + 1
 }
 
 // The number of rows.
