@@ -20,22 +20,20 @@ const PASS_PAIRS: usize = 4;
 // order as it was before them, so do all that would follow, and these are left out.
 pub fn improve_drawing(
     sides: &Sides<'_>,
-    draft: Draft<'_>,
+    draft: &mut Draft<'_>,
     work: &mut Work<'_>,
     saved: &mut [usize],
     crossings: usize,
 ) -> usize
-    requires improving { Improving sides.now.row.now sides.now.above.far.now sides.now.below.far.now draft.first.now pass_count downward draft.order.now draft.pos.now saved.old crossings }
+    requires improving { Improving sides.now.row.now sides.now.above.far.now sides.now.below.far.now draft.old.first.now pass_count downward draft.old.order.now draft.old.pos.now saved.old crossings }
     requires scratch { Scratch sides.now.row.now work.old.totals.now work.old.moved.now }
-    requires before_len { length draft.before.now ≡ length draft.order.now }
-    ensures { DrawingHeld (best_in sides.now.row.now sides.now.above.far.now sides.now.below.far.now draft.entry.first.now) saved.new result }
+    requires before_len { length draft.old.before.now ≡ length draft.old.order.now }
+    ensures { DrawingHeld (best_in sides.now.row.now sides.now.above.far.now sides.now.below.far.now draft.old.first.now) saved.new result }
 {
-    let Draft {
-        first,
-        order,
-        before,
-        pos,
-    } = draft;
+    let first = &mut *draft.first;
+    let order = &mut *draft.order;
+    let before = &mut *draft.before;
+    let pos = &mut *draft.pos;
     let mut fewest = crossings;
     for _ in 0..PASS_PAIRS {
         before.copy_from_slice(order);
