@@ -42,7 +42,9 @@ impl Layout<'_> {
     {
         let mut p = copy_front(self.rows, row);
         for (&a, &b) in self.from.iter().zip(self.to) {
-            p = lay_dummies(self.rows[a], self.rows[b], row, p);
+            let end = p + count_between(self.rows, a, b);
+            number_from(self.rows[a] + 1, &mut row[p..end]);
+            p = end;
         }
         p
     }
@@ -58,7 +60,9 @@ impl Layout<'_> {
         let mut s = 0;
         for (&a, &b) in self.from.iter().zip(self.to) {
             let k = count_between(self.rows, a, b);
-            s = lay_chain(a, b, d, k, upper, lower, s);
+            let end = s + k + 1;
+            lay_chain(a, b, d, &mut upper[s..end], &mut lower[s..end]);
+            s = end;
             d += k;
         }
         s
@@ -85,39 +89,19 @@ fn number_from(first: usize, part: &mut [usize])
     }
 }
 
-// The rows of the dummies of an edge from row `top` to row `bottom`, from point `at` on.
-fn lay_dummies(top: usize, bottom: usize, row: &mut [usize], at: usize) -> usize
-    requires top_lt_bottom { top < bottom }
-    requires top_in_bounds { at + (bottom - top - 1) ≤ length row.old }
-    ensures { Stored row.old at (run (suc top) (bottom - top - 1)) row.new result }
+// The ends of the segments from point a to point b over dummies that are numbered from d on, one dummy fewer than there are segments.
+fn lay_chain(a: usize, b: usize, d: usize, upper: &mut [usize], lower: &mut [usize])
+    requires some { 0 < length upper.old }
+    requires both { length lower.old ≡ length upper.old }
+    requires d_bound { d + length upper.old ≤ word_limit }
+    ensures uppers { upper.new ≡ uppers (chain a b d (length upper.old - 1)) }
+    ensures lowers { lower.new ≡ lowers (chain a b d (length upper.old - 1)) }
 {
-    let end = at + (bottom - top - 1);
-    number_from(top + 1, &mut row[at..end]);
-    end
-}
-
-// The segments from point a to point b over k dummies, which are numbered from d on, from entry `at` on.
-fn lay_chain(
-    a: usize,
-    b: usize,
-    d: usize,
-    k: usize,
-    upper: &mut [usize],
-    lower: &mut [usize],
-    at: usize,
-) -> usize
-    requires k_bound { d + k < word_limit }
-    requires k_in_bounds { at + k < length upper.old }
-    requires k_in_bounds_2 { at + k < length lower.old }
-    ensures stored { Stored upper.old at (uppers (chain a b d k)) upper.new result }
-    ensures stored_2 { Stored lower.old at (lowers (chain a b d k)) lower.new result }
-{
-    let last = at + k;
-    upper[at] = a;
-    number_from(d, &mut upper[at + 1..last + 1]);
-    number_from(d, &mut lower[at..last]);
+    let last = lower.len() - 1;
+    upper[0] = a;
+    number_from(d, &mut upper[1..]);
+    number_from(d, &mut lower[..last]);
     lower[last] = b;
-    last + 1
 }
 
 // The number of rows.
