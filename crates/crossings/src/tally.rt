@@ -95,9 +95,9 @@ pub fn raise_list(
         let v = ends.lower[k];
         let l = ends.pos[v];
         furthest = furthest.max(l);
-        counts[l] = counts[l] + 1;
+        counts[l] += 1;
         let b = l / BLOCK_SIZE;
-        blocks[b] = blocks[b] + 1;
+        blocks[b] += 1;
         x = ends.next[k];
     }
     furthest

@@ -20,9 +20,6 @@ bounds-counts-l c = (laws.raising-low c.args.ends.now.placed c.requires.h_in_bou
 pub overflow_add-counts : goal.overflow_add-counts
 overflow_add-counts c = omega (arith, (let h-entry : let a = c.args.ends.now in at c.loop-x.counts (low_of a.lower.now a.pos.now (c.loop-x.x - 1)) ≤ all_counted c.loop-x.counts = entry-most c.loop-x.counts _ in h-entry), (let h-small : all_counted c.loop-x.counts < segment_limit + segment_limit = omega (arith, c.loop-x.invariant.small, c.requires.counts_bound, few-list c.args.ends.now.placed c.requires.h_in_bounds) in h-small))
 
-pub offset_bounds-counts-l-in-loop-x : goal.offset_bounds-counts-l-in-loop-x
-offset_bounds-counts-l-in-loop-x c = omega (arith, (laws.raising-low c.args.ends.now.placed c.requires.h_in_bounds c.loop-x.invariant c.loop-x-test.true))
-
 pub bounds-counts-l-in-loop-x : goal.bounds-counts-l-in-loop-x
 bounds-counts-l-in-loop-x c = (laws.raising-low c.args.ends.now.placed c.requires.h_in_bounds c.loop-x.invariant c.loop-x-test.true)
 
