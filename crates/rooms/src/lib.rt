@@ -6,8 +6,9 @@
 
 ghost use Rattle.std.specs.Prelude.{◌≡◌, IsTrue, ◌+◌, ◌<◌, ◌≤◌, length};
 ghost use Rattle.points.specs.Limits.{max_points};
-ghost use Rattle.passes.specs.Laid.{segments_in};
+ghost use Rattle.passes.specs.Laid.{segments_in, rows_held};
 ghost use Rattle.fewest.specs.Fewest.{best_order};
+ghost use Rattle.fewest.specs.Drafts.{best_in, Roomy, Scratch, DrawingHeld};
 ghost use Rattle.rooms.specs.Rooms.{small_points, segment_room, Sketched, DrawnIs};
 
 use buffers::store_u16;
@@ -71,6 +72,34 @@ fn draw_in<const POINTS: usize, const STARTS: usize, const SEGMENTS: usize>(
         before: &mut before,
         pos: &mut pos,
     };
+    let mut totals = [0usize; POINTS];
+    let mut moved = [0usize; POINTS];
+    let mut work = Work {
+        totals: &mut totals,
+        moved: &mut moved,
+    };
+    let mut saved = [0usize; POINTS];
+    let crossings = find_in::<POINTS, SEGMENTS>(sketch, &mut draft, &mut work, &mut saved);
+    store_u16(&saved, sketch.row.len(), out);
+    crossings
+}
+
+// The same with room for the segments on both sides of so many points.
+fn find_in<const POINTS: usize, const SEGMENTS: usize>(
+    sketch: &Sketch<'_>,
+    draft: &mut Draft<'_>,
+    work: &mut Work<'_>,
+    saved: &mut [usize],
+) -> usize
+    requires sizes { (POINTS ≤ max_points) × (SEGMENTS ≡ segment_room POINTS) }
+    requires points_fit { length sketch.now.row.now ≤ POINTS }
+    requires segments_fit { length sketch.now.upper.now ≤ SEGMENTS }
+    requires roomy { Roomy sketch.now.row.now draft.old.first.now draft.old.order.now draft.old.pos.now saved.old }
+    requires scratch { Scratch sketch.now.row.now work.old.totals.now work.old.moved.now }
+    requires first_in_bounds { rows_held draft.old.first.now ≤ length work.old.totals.now }
+    requires before_len { length draft.old.before.now ≡ length draft.old.order.now }
+    ensures { DrawingHeld (best_in sketch.now.row.now sketch.now.upper.now sketch.now.lower.now draft.old.first.now) saved.new result }
+{
     let segments = sketch.upper.len();
     let mut above_head = [0usize; POINTS];
     let mut above_next = [0usize; SEGMENTS];
@@ -88,16 +117,5 @@ fn draw_in<const POINTS: usize, const STARTS: usize, const SEGMENTS: usize>(
         next: &mut below_next[..segments],
         counts: &mut below_counts,
     };
-    let mut totals = [0usize; POINTS];
-    let mut moved = [0usize; POINTS];
-    let mut work = Work {
-        totals: &mut totals,
-        moved: &mut moved,
-    };
-    let mut saved = [0usize; POINTS];
-    let crossings = find_fewest(
-        sketch, &mut draft, &mut above, &mut below, &mut work, &mut saved,
-    );
-    store_u16(&saved, sketch.row.len(), out);
-    crossings
+    find_fewest(sketch, draft, &mut above, &mut below, work, saved)
 }
