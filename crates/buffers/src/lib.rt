@@ -1,10 +1,14 @@
-// What is done to lent slices below all layers: entries cleared, copied, stored, read and changed, and the larger and the smaller of two
-// numbers.
+// What is done to lent slices below all layers: entries cleared, copied, stored, read and changed, the best of some lists kept, and the larger and the
+// smaller of two numbers.
 #![tactic(auto)]
+
+mod keeping;
 
 ghost use Rattle.std.specs.Prelude.{◌≡◌, ◌++◌, ℕ, max, min, ◌-◌, ◌≤◌, ◌<◌, length, set, take, drop, replicate};
 ghost use Rattle.graph.specs.Rows.{at};
 ghost use Rattle.buffers.specs.Written.{Stored};
+
+pub use crate::keeping::keep_fewer;
 
 // The first n entries set to 0.
 pub fn clear_first(s: &mut [usize], n: usize)
