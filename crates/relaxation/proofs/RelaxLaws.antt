@@ -19,9 +19,6 @@ headroom-set top [] i v h gt le = absurd (not-suc-le-zero h)
 headroom-set top (x ∷ xs) zero v h gt le = omega arith
 headroom-set top (x ∷ xs) (suc i) v h gt le = omega (arith, headroom-set top xs i v (le_of_suc-le-suc h) gt le)
 
-pub shaped-up : {from to gap : List ℕ} {n k : ℕ} → n ≤ k → Shaped from to gap n → Shaped from to gap k
-shaped-up le s = record { to_long = s.to_long; gap_long = s.gap_long; from_in = λ a h. le_trans (s.from_in a h) le; to_in = λ a h. le_trans (s.to_in a h) le }
-
 -- No residual walk climbs above rows that are held: a step up is over a kept edge, a step down over a tight one.
 pub height-le : (from to gap flow : List ℕ) (z : ℕ → ℕ) → Held from to gap flow z → {v h : ℕ} → Height from to gap flow v h → h ≤ z v
 height-le from to gap flow z k ground = omega arith

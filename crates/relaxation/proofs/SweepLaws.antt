@@ -16,7 +16,7 @@ use Rattle.relaxation.specs.Limits.{row_limit}
 use Rattle.relaxation.specs.Network.{Shaped}
 use Rattle.relaxation.specs.Relax.{Holder, Sums, TailIs, MovedIs, neither, tail-moved, head-moved, up, down, Eases, holds, lifts, Heights, headroom, Swept}
 use Rattle.buffers.proofs.ListLaws.{miss}
-use Rattle.relaxation.proofs.RelaxLaws.{shaped-up, sums, lift-heights, lift-long, lift-rest, lift-less}
+use Rattle.relaxation.proofs.RelaxLaws.{sums, lift-heights, lift-long, lift-rest, lift-less}
 
 -- Both ends of an edge are written. A head that is too low comes to the tail's row plus the gap; a tail below a used edge that is too long
 -- comes to the head's row less the gap; never both. An end that does not move is written as it was.
@@ -82,9 +82,6 @@ module _ (from to gap flow : List ℕ) (n : ℕ) (shape : Shaped from to gap n) 
   module _ (old y : List ℕ) (lifted a : ℕ) (fits : n ≤ length old) (s : Sweeping from to gap flow n old y lifted a) where
     pub fits-now : n ≤ length y
     fits-now = omega (arith, s.long)
-
-    pub shape-now : Shaped from to gap (length y)
-    shape-now = shaped-up fits-now shape
 
     pub sums-now : Sums from gap y
     sums-now = sums from to gap flow n row_limit shape hold y fits-now s.heights (omega arith)

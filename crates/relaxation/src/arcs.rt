@@ -6,7 +6,7 @@
 ghost use Rattle.std.specs.Prelude.{◌≡◌, ◌≤◌, set};
 ghost use Rattle.relaxation.specs.Arcs.{lists_of, link_one, link_from, link_all, link_at};
 
-use crate::net::{Arcs, Links};
+use crate::net::Links;
 
 // Edge a put in front of the list of node v.
 #[tactic(auto, unfolding(crate::specs::Arcs::link_one))]
@@ -36,15 +36,6 @@ impl Links<'_> {
         self.head.fill(0);
         link_ends(ends, self.head, self.next);
     }
-}
-
-// The edges in the lists of their tails, and in those of their heads.
-pub fn link_lists(arcs: &Arcs<'_>, outs: &mut Links<'_>, ins: &mut Links<'_>)
-    ensures outs_after { lists_of outs.new.head.now outs.new.next.now ≡ link_all arcs.now.from.now outs.old.head.now outs.old.next.now }
-    ensures ins_after { lists_of ins.new.head.now ins.new.next.now ≡ link_all arcs.now.to.now ins.old.head.now ins.old.next.now }
-{
-    outs.link_edges(arcs.from);
-    ins.link_edges(arcs.to);
 }
 
 // The link after edge a. Links fall along a list, so it ends.
