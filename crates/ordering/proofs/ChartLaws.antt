@@ -140,7 +140,7 @@ module _ (n : ℕ) (edges : List Edge) (rows : List ℕ) (sum : ℕ) (s : RowsGi
 
       -- with few enough points it can be drawn
       pub drawable : points ≤ max_points → Drawable (take n rows) from to
-      drawable h = record { chart = sizable.chart; few_points = omega (arith, p); few_edges = sizable.few_edges; few_rows = sizable.few_rows }
+      drawable h = record { few_points = omega (arith, p); few_edges = sizable.few_edges; few_rows = sizable.few_rows }
 
       pub found-drawn : (height : ℕ) → height ≡ row_count (take n rows) → points ≤ max_points → (order : List ℕ) (crossings : ℕ)
           → DrawnIs (drawing_of (take n rows) (edges_between from to)) (replicate max_points 0) order crossings

@@ -12,7 +12,7 @@ use graph::TableEdge;
 use merging::{MergedEdge, direct_merged, merge_edges};
 use outcome::{Refusal, Verdict};
 use points::limits::MAX_POINTS;
-use points::{count_points, count_rows};
+use points::{Layout, count_rows};
 use table::limits::{MAX_EDGES, MAX_STEPS};
 
 // The ends and the weights of edges, one array each: the first `count` entries are in use.
@@ -59,13 +59,18 @@ pub fn draw_edges(
     let count = ends.count;
     let from = ends.from;
     let to = ends.to;
-    let points = count_points(&rows[..n], &from[..count], &to[..count]);
+    let layout = Layout {
+        rows: &rows[..n],
+        from: &from[..count],
+        to: &to[..count],
+    };
+    let points = layout.count_points();
     if MAX_POINTS < points {
         return refuse_chart(Refusal::ManyPoints);
     }
-    let height = count_rows(&rows[..n]);
+    let height = count_rows(layout.rows);
     let mut order = [0u16; MAX_POINTS];
-    let crossings = draw_points(&rows[..n], &from[..count], &to[..count], points, &mut order);
+    let crossings = draw_points(&layout, points, &mut order);
     ChartFound {
         verdict: Verdict::Accepted,
         n: n,

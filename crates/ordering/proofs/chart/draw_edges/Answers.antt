@@ -4,8 +4,8 @@ use Rattle.ordering.proofs.DrawnLaws.{mergeable}
 use Rattle.ordering.proofs.ChartLaws.{sizable, drawable, found-many, found-drawn}
 use Rattle.ordering.proofs.chart.draw_edges.Goals as goal
 
-pub count_points-points-requires : goal.count_points-points-requires
-count_points-points-requires c = (sizable _ _ _ _ c.requires.rows_given _ (drawn-ends _ _) _ _ c.merge_ends-ends.ensures.tails c.merge_ends-ends.ensures.heads).chart
+pub invariant_of-layout : goal.invariant_of-layout
+invariant_of-layout c = record { chart = (sizable _ _ _ _ c.requires.rows_given _ (drawn-ends _ _) _ _ c.merge_ends-ends.ensures.tails c.merge_ends-ends.ensures.heads).chart }
 
 pub returns : goal.returns
 returns c = found-drawn _ _ _ _ c.requires.rows_given _ (drawn-ends _ _) _ _ c.merge_ends-ends.ensures.tails c.merge_ends-ends.ensures.heads _ c.count_points-points.ensures _ c.count_rows-height.ensures c.if-points-gt-MAX_POINTS.false _ _ c.draw_points-crossings.ensures
