@@ -3,7 +3,7 @@ ghost use Rattle.coordinates.specs.Costing.{Lined, LinesSpaced};
 
 use crate::cost::lay_costs;
 use ordering::chart::EdgeEnds;
-use points::{lay_rows, lay_segments};
+use points::Layout;
 use spacing::find_x;
 use spacing::limits::{MAX_NODES, MAX_SEGMENTS, MAX_XS};
 
@@ -20,8 +20,13 @@ pub fn space_lines(rows: &[usize], ends: EdgeEnds, order: &[u16]) -> [usize; MAX
     let mut upper = [0usize; MAX_SEGMENTS];
     let mut lower = [0usize; MAX_SEGMENTS];
     let mut cost = [0usize; MAX_SEGMENTS];
-    let p = lay_rows(rows, &from[..count], &to[..count], &mut row);
-    let s = lay_segments(rows, &from[..count], &to[..count], &mut upper, &mut lower);
+    let layout = Layout {
+        rows,
+        from: &from[..count],
+        to: &to[..count],
+    };
+    let p = layout.lay_rows(&mut row);
+    let s = layout.lay_segments(&mut upper, &mut lower);
     lay_costs(
         rows,
         &from[..count],

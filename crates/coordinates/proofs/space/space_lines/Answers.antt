@@ -7,8 +7,8 @@ use Rattle.coordinates.proofs.space.space_lines.Goals as goal
 pub slice_bounds-find_x-end : goal.slice_bounds-find_x-end
 slice_bounds-find_x-end c = sym (length-take-le _ _ (row_fits _ _ _ c.requires c.lay_rows-p.ensures c.lay_segments-s.ensures.stored c.lay_segments-s.ensures.stored_2 c.lay_costs.ensures))
 
-pub lay_segments-s-requires-clause-to_in_bounds : goal.lay_segments-s-requires-clause-to_in_bounds
-lay_segments-s-requires-clause-to_in_bounds c = segments-room _ _ _ c.requires
+pub lay_segments-s-requires-clause-upper_room : goal.lay_segments-s-requires-clause-upper_room
+lay_segments-s-requires-clause-upper_room c = segments-room _ _ _ c.requires
 
 pub slice_bounds-lower-end : goal.slice_bounds-lower-end
 slice_bounds-lower-end c = lower-fits _ _ _ c.requires c.lay_rows-p.ensures c.lay_segments-s.ensures.stored c.lay_segments-s.ensures.stored_2 c.lay_costs.ensures
@@ -28,8 +28,8 @@ slice_bounds-find_x-end-4 c = sym (length-take-le _ _ (cost-fits _ _ _ c.require
 pub returns : goal.returns
 returns c = lines-spaced _ _ _ c.requires c.lay_rows-p.ensures c.lay_segments-s.ensures.stored c.lay_segments-s.ensures.stored_2 c.lay_costs.ensures _ c.find_x.ensures
 
-pub lay_segments-s-requires-clause-to_in_bounds_2 : goal.lay_segments-s-requires-clause-to_in_bounds_2
-lay_segments-s-requires-clause-to_in_bounds_2 c = segments-room _ _ _ c.requires
+pub lay_segments-s-requires-clause-lower_room : goal.lay_segments-s-requires-clause-lower_room
+lay_segments-s-requires-clause-lower_room c = segments-room _ _ _ c.requires
 
 pub slice_bounds-row-end : goal.slice_bounds-row-end
 slice_bounds-row-end c = row_fits _ _ _ c.requires c.lay_rows-p.ensures c.lay_segments-s.ensures.stored c.lay_segments-s.ensures.stored_2 c.lay_costs.ensures
@@ -43,5 +43,5 @@ slice_bounds-upper-end c = upper_fits _ _ _ c.requires c.lay_rows-p.ensures c.la
 pub slice_bounds-cost-end : goal.slice_bounds-cost-end
 slice_bounds-cost-end c = cost-fits _ _ _ c.requires c.lay_rows-p.ensures c.lay_segments-s.ensures.stored c.lay_segments-s.ensures.stored_2 c.lay_costs.ensures
 
-pub lay_rows-p-requires-clause-to_in_bounds : goal.lay_rows-p-requires-clause-to_in_bounds
-lay_rows-p-requires-clause-to_in_bounds c = rows_room _ _ _ c.requires
+pub lay_rows-p-requires : goal.lay_rows-p-requires
+lay_rows-p-requires c = rows_room _ _ _ c.requires
