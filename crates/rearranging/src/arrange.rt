@@ -9,9 +9,9 @@ use crate::{OrderAnswer, RowFigures};
 use exchange::limits::{MAX_ROW_POINTS, MAX_TRIES};
 use ordering::chart::EdgeEnds;
 use outcome::Refusal;
+use points::Layout;
 use points::limits::MAX_POINTS;
-use points::{lay_rows, lay_segments};
-use reordering::{gather_row, order_points};
+use reordering::{FlatChart, gather_row, order_points};
 use rooms::MAX_SEGMENTS;
 
 // Row r of lines between steps in their rows, put in its best order: the chart is laid in flat lists.
@@ -32,26 +32,29 @@ pub fn arrange_row(
     let mut row = [0usize; MAX_POINTS];
     let mut upper = [0usize; MAX_SEGMENTS];
     let mut lower = [0usize; MAX_SEGMENTS];
-    let p = lay_rows(rows, &from[..count], &to[..count], &mut row);
-    let s = lay_segments(rows, &from[..count], &to[..count], &mut upper, &mut lower);
-    arrange_laid(&row[..p], &upper[..s], &lower[..s], order, r, tries, out)
+    let layout = Layout {
+        rows,
+        from: &from[..count],
+        to: &to[..count],
+    };
+    let p = layout.lay_rows(&mut row);
+    let s = layout.lay_segments(&mut upper, &mut lower);
+    let chart = FlatChart {
+        row: &row[..p],
+        upper: &upper[..s],
+        lower: &lower[..s],
+        order,
+    };
+    arrange_laid(&chart, r, tries, out)
 }
 
 // The same of flat lists: a row of too many points is refused, then too many tries, then a short buffer.
-fn arrange_laid(
-    row: &[usize],
-    upper: &[usize],
-    lower: &[usize],
-    order: &[u16],
-    r: usize,
-    tries: usize,
-    out: &mut [u16],
-) -> OrderAnswer
-    requires { Stack row.now upper.now lower.now order.now r }
-    ensures { LaidEnded row.now upper.now lower.now order.now r tries out.old out.new result }
+fn arrange_laid(chart: &FlatChart<'_>, r: usize, tries: usize, out: &mut [u16]) -> OrderAnswer
+    requires { Stack chart.now.row.now chart.now.upper.now chart.now.lower.now chart.now.order.now r }
+    ensures { LaidEnded chart.now.row.now chart.now.upper.now chart.now.lower.now chart.now.order.now r tries out.old out.new result }
 {
-    let mut points = [0usize; MAX_POINTS];
-    let k = gather_row(order, row, r, &mut points);
+    let points = gather_row(chart.order, chart.row, r);
+    let k = points.len();
     if MAX_ROW_POINTS < k {
         return OrderAnswer::Refused(Refusal::BadRow);
     }
@@ -61,9 +64,8 @@ fn arrange_laid(
     if out.len() < k {
         return OrderAnswer::Refused(Refusal::ShortBuffer);
     }
-    let found = order_points(row, upper, lower, order, &points[..k], r, tries);
-    let places = found.order;
-    name_points(&places, &points[..k], out);
+    let found = order_points(chart, points.as_slice(), r, tries);
+    name_points(found.order.as_slice(), points.as_slice(), out);
     OrderAnswer::Ordered(RowFigures {
         points: k,
         crossings: found.crossings,
