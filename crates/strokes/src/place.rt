@@ -8,7 +8,7 @@ ghost use Rattle.strokes.specs.Placing.{StrokePlaced};
 use coordinates::space::space_lines;
 use corners::{Stroke, stroke_to};
 use ordering::chart::EdgeEnds;
-use points::lay_rows;
+use points::Layout;
 use routes::Visit;
 use spacing::limits::MAX_XS;
 
@@ -23,7 +23,12 @@ pub fn place_stroke(v: Visit, rows: &[usize], ends: EdgeEnds, order: &[u16]) -> 
     let from = ends.from;
     let to = ends.to;
     let mut row = [0usize; MAX_XS];
-    lay_rows(rows, &from[..count], &to[..count], &mut row);
+    let layout = Layout {
+        rows,
+        from: &from[..count],
+        to: &to[..count],
+    };
+    layout.lay_rows(&mut row);
     let xs = space_lines(rows, ends, order);
     let p = v.point;
     stroke_to(v.start, xs[p], row[p])

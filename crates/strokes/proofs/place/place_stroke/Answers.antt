@@ -21,8 +21,8 @@ stroke_to-requires c = let x = x-low _ _ _ c.requires.lined _ _ c.lay_rows.ensur
     let row = row_low _ _ _ c.requires.lined _ _ c.lay_rows.ensures c.requires.below c.args.v c.requires.point_in_bounds in
     (omega (arith, x, row), omega (arith, x, row))
 
-pub lay_rows-requires-clause-to_in_bounds : goal.lay_rows-requires-clause-to_in_bounds
-lay_rows-requires-clause-to_in_bounds c = rows_room _ _ _ c.requires.lined
+pub lay_rows-requires : goal.lay_rows-requires
+lay_rows-requires c = rows_room _ _ _ c.requires.lined
 
 pub returns : goal.returns
 returns c = stroke-placed _ _ _ c.requires.lined _ _ c.lay_rows.ensures c.requires.below _ c.requires.point_in_bounds _ c.space_lines-xs.ensures _
