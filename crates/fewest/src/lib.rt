@@ -45,7 +45,8 @@ pub fn improve_drawing(
     fewest
 }
 
-// A pass down and a pass up. Answers the fewest crossings so far.
+// A pass down and a pass up. Answers the fewest crossings so far. The order, its positions and the best order come as slices of their own,
+// since the caller has to know what they hold afterwards.
 fn pass_both(
     sides: &Sides<'_>,
     first: &[usize],

@@ -92,7 +92,8 @@ fn list_ends(near: &[usize], head: &mut [usize], next: &mut [usize], counts: &mu
     count_ends(near, counts);
 }
 
-// The start order, with its positions, as the best so far. Answers its crossings; the side has the segments below each point.
+// The start order, with its positions, as the best so far. Answers its crossings; the side has the segments below each point. What the
+// caller has to know of afterwards comes as slices of its own.
 fn start_drawing(
     sketch: &Sketch<'_>,
     side: &Side<'_>,
