@@ -61,7 +61,8 @@ pub fn solve(net: &Net<'_>, y: &mut [usize], flow: &mut [usize], work: &mut Work
     relax_above(&net.arcs, flow, y, work.lowest);
 }
 
-// The same in room of its own, for so many nodes and edges as arrays can have. The flow is not handed out.
+// The same in room of its own, for so many nodes and edges as arrays can have. The flow is not handed out. The arrays stand here one by one,
+// so that it is a long function: what lends them on must own them, and there is no heap.
 pub fn best_rows<const NODES: usize, const EDGES: usize>(net: &Net<'_>, y: &mut [usize])
     requires bounded { Bounded net.now.arcs.from.now net.now.arcs.to.now net.now.arcs.gap.now net.now.arcs.n row_limit }
     requires nodes_fit { NODES * 8 < 9223372036854775808 }
