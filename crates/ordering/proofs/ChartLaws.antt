@@ -106,7 +106,7 @@ module _ (edges : List Edge) (f : RowsFound) (s : RowsGiven edges f) (drawn : Li
 
       -- with few enough points it can be drawn
       pub drawable : points ≤ max_points → Drawable ys from to
-      drawable h = record { chart = sizable.chart; few_points = omega (arith, p); few_edges = sizable.few_edges; few_rows = sizable.few_rows }
+      drawable h = record { few_points = omega (arith, p); few_edges = sizable.few_edges; few_rows = sizable.few_rows }
 
       pub found-drawn : (c : ChartFound) → c.rows.items ≡ ys → c.height ≡ row_count ys → c.total ≡ f.total → points ≤ max_points → {old all : List ℕ}
           → DrawnIs (drawing_of ys (edges_between from to)) old all c.crossings → c.order.items ≡ take points all

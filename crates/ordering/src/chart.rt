@@ -14,7 +14,7 @@ use graph::TableEdge;
 use merging::merge_edges;
 use outcome::Refusal;
 use points::limits::MAX_POINTS;
-use points::{count_points, count_rows};
+use points::{Layout, count_rows};
 use rows::types::RowsFound;
 
 // The chart of edges, each as its flag says, in their best rows: repeated edges are drawn as one. The points are counted first, since only
@@ -29,13 +29,18 @@ pub fn draw_edges(
     ensures { EdgesFound (length found.rows.items) (directed_by turned.now edges.now) (drawn_edges turned.now (merged edges.now)) found.rows.items result }
 {
     let ends = merge_ends(edges, turned);
-    let points = count_points(&found.rows, &ends.from, &ends.to);
+    let layout = Layout {
+        rows: &found.rows,
+        from: &ends.from,
+        to: &ends.to,
+    };
+    let points = layout.count_points();
     if MAX_POINTS < points {
         return Err(Refusal::ManyPoints);
     }
-    let height = count_rows(&found.rows);
+    let height = count_rows(layout.rows);
     let mut all = [0u16; MAX_POINTS];
-    let crossings = draw_points(&found.rows, &ends.from, &ends.to, points, &mut all);
+    let crossings = draw_points(&layout, points, &mut all);
     let mut order = ArrayVec::from(all);
     order.truncate(points);
     Ok(ChartFound {

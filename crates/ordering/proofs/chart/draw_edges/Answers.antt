@@ -10,12 +10,12 @@ use Rattle.ordering.proofs.chart.draw_edges.Goals as goal
 pub merge_ends-ends-requires-clause-mergeable : goal.merge_ends-ends-requires-clause-mergeable
 merge_ends-ends-requires-clause-mergeable c = mergeable _ _ _ c.requires.rows_given.fair
 
-pub count_points-points-requires : goal.count_points-points-requires
-count_points-points-requires c =
+pub invariant_of-layout : goal.invariant_of-layout
+invariant_of-layout c =
     let f = c.merge_ends-ends.result in
     let e = c.merge_ends-ends.ensures in
     rw (c.deref.ensures.0, c.deref-2.ensures.0, c.deref-3.ensures.0)
-    (sizable _ c.args.found c.requires.rows_given _ (drawn-ends _ _) _ _ (flat-tails f e) (flat-heads f e)).chart
+    (record { chart = (sizable _ c.args.found c.requires.rows_given _ (drawn-ends _ _) _ _ (flat-tails f e) (flat-heads f e)).chart })
 
 pub returns-then-points-gt-MAX_POINTS : goal.returns-then-points-gt-MAX_POINTS
 returns-then-points-gt-MAX_POINTS c =
@@ -28,7 +28,7 @@ pub draw_points-crossings-requires-clause-drawable : goal.draw_points-crossings-
 draw_points-crossings-requires-clause-drawable c =
     let f = c.merge_ends-ends.result in
     let e = c.merge_ends-ends.ensures in
-    rw (c.deref-5.ensures.0, c.deref-6.ensures.0, c.deref-7.ensures.0)
+    rw (c.deref.ensures.0, c.deref-2.ensures.0, c.deref-3.ensures.0)
     (drawable _ c.args.found c.requires.rows_given _ (drawn-ends _ _) _ _ (flat-tails f e) (flat-heads f e) _
     (rw (c.deref.ensures.0, c.deref-2.ensures.0, c.deref-3.ensures.0) at c.count_points-points.ensures) c.if-points-gt-MAX_POINTS.false)
 
@@ -37,6 +37,6 @@ returns c =
     let f = c.merge_ends-ends.result in
     let e = c.merge_ends-ends.ensures in
     found-drawn _ c.args.found c.requires.rows_given _ (drawn-ends _ _) _ _ (flat-tails f e) (flat-heads f e) _
-    (rw (c.deref.ensures.0, c.deref-2.ensures.0, c.deref-3.ensures.0) at c.count_points-points.ensures) _ refl (rw c.deref-4.ensures.0 at c.count_rows-height.ensures) refl
-    c.if-points-gt-MAX_POINTS.false (rw (c.deref-5.ensures.0, c.deref-6.ensures.0, c.deref-7.ensures.0) at c.draw_points-crossings.ensures)
+    (rw (c.deref.ensures.0, c.deref-2.ensures.0, c.deref-3.ensures.0) at c.count_points-points.ensures) _ refl (rw c.deref.ensures.0 at c.count_rows-height.ensures) refl
+    c.if-points-gt-MAX_POINTS.false (rw (c.deref.ensures.0, c.deref-2.ensures.0, c.deref-3.ensures.0) at c.draw_points-crossings.ensures)
     (c.truncate.ensures.items ∙ ap (take c.count_points-points.result) c.from-order.ensures.0)
