@@ -63,15 +63,3 @@ impl TableEdge {
         Edge::from(self).directed(turned)
     }
 }
-
-pub fn direct(own: Edge, turned: bool) -> Edge
-    ensures { result ≡ directed turned own }
-{
-    own.directed(turned)
-}
-
-pub fn direct_edge(e: TableEdge, turned: bool) -> Edge
-    ensures { result ≡ directed turned (own_edge e) }
-{
-    e.directed(turned)
-}

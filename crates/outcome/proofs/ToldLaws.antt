@@ -6,10 +6,8 @@ use native.Mathlib.Omega.{arith}
 use lib.ListN.{get_or}
 use Rattle.outcome.specs.declared.Refusal.{Refusal}
 use Rattle.outcome.specs.declared.Refusal.TheVariants.{Cut, Overlong, BadEdition, ManySteps, BadKind, OutOfRange, BadNameByte, ManyEdges, BadEnd, Spare, Loop, ManyPoints, ShortBuffer, NoStep, BadFirmness, LargeChart, BadRow, ManyTries}
-use Rattle.outcome.specs.declared.Verdict.{Verdict}
-use Rattle.outcome.specs.declared.Verdict.TheVariants.{Accepted, Refused}
 use Rattle.std.specs.Prelude.{Result, Ok, Err}
-use Rattle.outcome.specs.Refusal.{Outcome, done, refused, numbers_of, number_of, step_of, told, outcome_of, answered, verdict_numbers, refusal_in}
+use Rattle.outcome.specs.Refusal.{Outcome, done, refused, numbers_of, number_of, step_of, told, outcome_of, answered, refusal_in}
 
 -- ---- refusals
 
@@ -155,13 +153,3 @@ module _ {A B : Type 0} (shown : A → List ℕ) (values : B → List ℕ) (o : 
 
   pub answer-done : {a : A} → answered shown (Ok a) ≡ told values o → Values values o (shown a)
   answer-done e = told-done values o e
-
--- ---- verdicts
-
-pub verdict-accepted : (v : Verdict) → refusal_in (verdict_numbers v) ≡ 0 → v ≡ Accepted
-verdict-accepted Accepted e = refl
-verdict-accepted (Refused f) e = absurd (omega (arith, number-some f))
-
-pub verdict-refused : (v : Verdict) {f : Refusal} → verdict_numbers v ≡ numbers_of f → v ≡ Refused f
-verdict-refused Accepted {f} e = absurd (omega (arith, number-some f, ap refusal_in e))
-verdict-refused (Refused g) {f} e = ap Refused (numbers-same g f e)

@@ -3,8 +3,6 @@ use Rattle.std.specs.Prelude.{Bool, true, false, List, [], ◌∷◌, ℕ, get_o
 use Rattle.std.specs.List.{join_with_byte}
 use Rattle.std.specs.Fmt.{decimal}
 use Rattle.outcome.specs.declared.Refusal.{Refusal}
-use Rattle.outcome.specs.declared.Verdict.{Verdict}
-use Rattle.outcome.specs.declared.Verdict.TheVariants.{Accepted, Refused}
 use Rattle.outcome.specs.declared.Refusal.TheVariants.{Cut, Overlong, BadEdition, ManySteps, BadKind, OutOfRange, BadNameByte, ManyEdges, BadEnd, Spare, Loop, ManyPoints, ShortBuffer, NoStep, BadFirmness, LargeChart, BadRow, ManyTries}
 
 -- All that a refusal tells: the number that document 01, or 02 from 15 on, gives the reason, and for a loop the step too.
@@ -67,11 +65,6 @@ answered values (Err r) = numbers_of r
 -- no values come with it
 abbrev pub bare : {A : Type 0} → A → List ℕ
 bare a = []
-
--- the numbers of a verdict
-abbrev pub verdict_numbers : Verdict → List ℕ
-verdict_numbers Accepted = 0 ∷ []
-verdict_numbers (Refused r) = numbers_of r
 
 -- 0, or the refusal's number, of the numbers that a call tells
 abbrev pub refusal_in : List ℕ → ℕ

@@ -1,4 +1,4 @@
-// Why a call is turned down, and whether it is: what the layers share of their answers.
+// Why a call is turned down: what the layers share of their answers.
 #![tactic(auto)]
 
 ghost use Rattle.std.specs.Prelude.{◌≡◌};
@@ -34,12 +34,6 @@ pub enum Refusal {
     // A row that no order is looked for: row 0, one that the chart does not have, or one of too many points.
     BadRow,
     ManyTries,
-}
-
-#[derive(Clone, Copy)]
-pub enum Verdict {
-    Accepted,
-    Refused(Refusal),
 }
 
 impl Refusal {
@@ -84,11 +78,4 @@ impl fmt::Display for Refusal {
             _ => write!(f, "{number}"),
         }
     }
-}
-
-// The number of a refusal.
-pub fn number_of(f: Refusal) -> usize
-    ensures { result ≡ number_of f }
-{
-    f.number()
 }
