@@ -6,7 +6,7 @@ use Prim.Native.Nat.{ℕ, ◌≤◌, ◌<◌}
 use native.Mathlib.Omega.{arith}
 use lib.ListN.{length, get_or, take, replicate, length-replicate}
 use lib.Seq.{ext_get_or, get_or-take, length-take-le}
-use Rattle.std.specs.Prelude.{Some, None, Ok, Err}
+use Rattle.std.specs.Prelude.{Some, None, Result, Ok, Err}
 use Rattle.std.proofs.lemmas.List.{get_or-replicate}
 use Rattle.arrayvec.specs.ArrayVec.{ArrayVec}
 use Rattle.graph.specs.declared.Edge.{Edge}
@@ -14,6 +14,7 @@ use Rattle.graph.specs.declared.TableEdge.{TableEdge}
 use Rattle.graph.specs.Search.{rows_of}
 use Rattle.graph.specs.Directed.{own_edge, no_table_edge, plain_edges, directed, directed_by}
 use Rattle.graph.proofs.DirectedLaws.{directed-length, directed-each}
+use Rattle.outcome.specs.declared.Refusal.{Refusal}
 use Rattle.outcome.specs.declared.Refusal.TheVariants.{Loop}
 use Rattle.outcome.specs.Refusal.{done}
 use Rattle.table.specs.Limits.{max_edges}
@@ -23,7 +24,8 @@ use Rattle.acyclic.specs.Oriented.{must_of, any_soft, oriented_edges, turned_edg
 use Rattle.acyclic.proofs.OrientedLaws.{AllApart, oriented-none, firm-plain, firm-turned, firm-must, turned-length, directed-oriented}
 use Rattle.orientation.specs.Orientable.{Orientable}
 use Rattle.rows.specs.Answers.{rows_found}
-use Rattle.rows.specs.Placed.{FairEdges}
+use Rattle.rows.specs.declared.types.RowsFound.{RowsFound}
+use Rattle.rows.specs.Placed.{FairEdges, Placed, EdgesPlaced}
 use Rattle.rows.proofs.PlacedLaws.{loop-free}
 use Rattle.layering.specs.Calls.{table_rows_found, EdgesTurned}
 
@@ -87,6 +89,14 @@ module _ (n : ℕ) (edges : List TableEdge) (fair : Orientable n edges) where
 
     pub turned-firm : {all turned : ArrayVec Bool} → all.items ≡ replicate max_edges false → turned.items ≡ take (length edges) all.items → EdgesTurned n edges (Ok turned)
     turned-firm {all} {turned} e f = (f ∙ ap (take (length edges)) e ∙ firm-flags, firm-found)
+
+    firm-directed : directed_by (take (length edges) (replicate max_edges false)) edges ≡ oriented_edges n edges
+    firm-directed = ap (λ flags. directed_by flags edges) firm-flags ∙ directed-oriented n edges
+
+    -- with no flag set, what is found for the edges is what is found for the table's
+    pub ranked-firm : (r : Result RowsFound Refusal) → EdgesPlaced n (directed_by (take (length edges) (replicate max_edges false)) edges) r
+        → (take (length edges) (replicate max_edges false) ≡ turned_edges n edges) × Placed n (oriented_edges n edges) (table_rows_found n edges) r
+    ranked-firm r p = (firm-flags, subst (λ o. Placed n (oriented_edges n edges) o r) firm-found (subst (λ l. EdgesPlaced n l r) firm-directed p))
 
   -- ---- a loop of must edges
 
