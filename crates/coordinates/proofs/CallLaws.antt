@@ -29,7 +29,7 @@ use Rattle.merging.specs.Merged.{no_merged_edge, merged, as_edge, drawn_edges}
 use Rattle.merging.specs.Merging.{max_added, Mergeable}
 use Rattle.merging.proofs.FirstLaws.{merged-few, merged-light}
 use Rattle.merging.proofs.SameLaws.{drawn-length, drawn-get}
-use Rattle.flatten.specs.declared.Flat.{Flat}
+use Rattle.flatten.specs.Flat.{Flat}
 use Rattle.flatten.specs.Flat.{flat_edges}
 use Rattle.ordering.specs.declared.types.TableChart.{TableChart}
 use Rattle.ordering.specs.Calls.{drawn_in, point_count, unless_many, chart_of_table, filled}

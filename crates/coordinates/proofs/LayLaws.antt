@@ -8,7 +8,7 @@ use native.Mathlib.Omega.{arith}
 use lib.ListN.{length, get_or, take, drop, length-map, length-append}
 use lib.Seq.{take-suc, take_all}
 use Rattle.std.proofs.lemmas.List.{get_or-map, take-append-drop}
-use Rattle.flatten.specs.declared.Flat.{Flat}
+use Rattle.flatten.specs.Flat.{Flat}
 use Rattle.flatten.specs.Flat.{flat_edges}
 use Rattle.relaxation.proofs.EdgesLaws.{length-edges_of, edge_at}
 use Rattle.graph.specs.declared.Edge.{Edge}

@@ -17,7 +17,7 @@ use Rattle.points.proofs.NeighbourLaws.{uppers-in, lowers-in, chart-leads}
 use Rattle.fewest.specs.Fewest.{drawing_of}
 use Rattle.fewest.proofs.CompleteLaws.{drawing-count, drawing-points}
 use Rattle.drawing.proofs.DrawLaws.{stored-part, stored-within}
-use Rattle.flatten.specs.declared.Flat.{Flat}
+use Rattle.flatten.specs.Flat.{Flat}
 use Rattle.flatten.specs.Flat.{flat_edges}
 use Rattle.ordering.specs.Calls.{point_count}
 use Rattle.ordering.proofs.SplitLaws.{flat-tails, flat-heads, flat-weights}

@@ -9,7 +9,7 @@ use Rattle.points.specs.Laying.{Chart}
 use Rattle.fewest.specs.Fewest.{drawing_of}
 use Rattle.table.specs.Limits.{max_edges}
 use Rattle.merging.specs.Merging.{max_added}
-use Rattle.flatten.specs.declared.Flat.{Flat}
+use Rattle.flatten.specs.Flat.{Flat}
 use Rattle.flatten.specs.Flat.{flat_edges}
 use Rattle.ordering.specs.Calls.{point_count}
 use Rattle.spacing.specs.Limits.{max_xs, max_nodes, plain_factor, end_factor, inner_factor}

@@ -14,7 +14,7 @@ use Rattle.std.specs.List.{zip}
 use Rattle.std.proofs.lemmas.List.{get_or_read}
 use Rattle.std.proofs.lemmas.Slice.Zip.{length-zip, get_or-zip}
 use Rattle.relaxation.proofs.EdgesLaws.{length-edges_of, edge_at}
-use Rattle.flatten.specs.declared.Flat.{Flat}
+use Rattle.flatten.specs.Flat.{Flat}
 use Rattle.flatten.specs.Flat.{flat_edges}
 use Rattle.graph.specs.declared.Edge.{Edge}
 use Rattle.graph.specs.Rows.{no_edge}

@@ -9,7 +9,7 @@ use Rattle.outcome.specs.declared.Refusal.{Refusal}
 use Rattle.outcome.specs.declared.Refusal.TheVariants.{ManySteps, ManyEdges}
 use Rattle.table.specs.Limits.{max_steps, max_edges}
 use Rattle.outcome.specs.Refusal.{done, refused}
-use Rattle.flatten.specs.declared.Flat.{Flat}
+use Rattle.flatten.specs.Flat.{Flat}
 use Rattle.flatten.specs.Flat.{flat_edges}
 use Rattle.flatten.specs.Records.{copied}
 use Rattle.flatten.proofs.FlattenLaws.{copied-few}

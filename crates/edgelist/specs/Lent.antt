@@ -2,7 +2,7 @@
 use Rattle.std.specs.Prelude.{◌≡◌, List, ℕ, length, Result}
 use Rattle.graph.specs.declared.Edge.{Edge}
 use Rattle.outcome.specs.declared.Refusal.{Refusal}
-use Rattle.flatten.specs.declared.Flat.{Flat}
+use Rattle.flatten.specs.Flat.{Flat}
 use Rattle.flatten.specs.Flat.{flat_edges}
 use Rattle.flatten.specs.Records.{copied}
 use Rattle.rows.specs.declared.types.RowsFound.{RowsFound}

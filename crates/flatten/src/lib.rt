@@ -15,34 +15,37 @@ use graph::Edge;
 use relaxation::net::Arcs;
 use table::limits::MAX_EDGES;
 
-// Edges in flat lists, one list a field.
+// Edges in flat lists, one list a field, of at most so many.
 #[derive(Drop)]
-pub struct Flat {
-    pub from: ArrayVec<usize, MAX_EDGES>,
-    pub to: ArrayVec<usize, MAX_EDGES>,
-    pub gap: ArrayVec<usize, MAX_EDGES>,
-    pub weight: ArrayVec<usize, MAX_EDGES>,
+pub struct EdgeLists<const CAP: usize> {
+    pub from: ArrayVec<usize, CAP>,
+    pub to: ArrayVec<usize, CAP>,
+    pub gap: ArrayVec<usize, CAP>,
+    pub weight: ArrayVec<usize, CAP>,
     ghost even: { Even from.items to.items gap.items weight.items },
 }
 
-impl Flat {
+// As many as a table can have.
+pub type Flat = EdgeLists<MAX_EDGES>;
+
+impl<const CAP: usize> EdgeLists<CAP> {
     ghost use Rattle.flatten.specs.Flat.{flat_edges};
 
     // No edges.
-    pub fn new() -> Flat
+    pub fn new() -> Self
         ensures { flat_edges result ≡ [] }
     {
-        Flat {
-            from: ArrayVec::<usize, MAX_EDGES>::new(),
-            to: ArrayVec::<usize, MAX_EDGES>::new(),
-            gap: ArrayVec::<usize, MAX_EDGES>::new(),
-            weight: ArrayVec::<usize, MAX_EDGES>::new(),
+        EdgeLists {
+            from: ArrayVec::<usize, CAP>::new(),
+            to: ArrayVec::<usize, CAP>::new(),
+            gap: ArrayVec::<usize, CAP>::new(),
+            weight: ArrayVec::<usize, CAP>::new(),
         }
     }
 
     // One edge more, field by field. There must be room.
     pub fn push(&mut self, e: Edge)
-        requires { length (flat_edges self.old) < max_edges }
+        requires { length (flat_edges self.old) < CAP }
         ensures { flat_edges self.new ≡ flat_edges self.old ++ e ∷ [] }
     {
         self.from.push(e.from);

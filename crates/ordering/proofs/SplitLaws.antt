@@ -6,7 +6,7 @@ use native.Mathlib.Omega.{arith}
 use lib.ListN.{length}
 use Rattle.graph.specs.declared.Edge.{Edge}
 use Rattle.relaxation.specs.Network.{edges_of}
-use Rattle.flatten.specs.declared.Flat.{Flat}
+use Rattle.flatten.specs.Flat.{Flat}
 use Rattle.flatten.specs.Flat.{flat_edges}
 use Rattle.points.proofs.PointLaws.{tails, heads}
 

@@ -13,7 +13,7 @@ use Rattle.outcome.specs.Refusal.{done, then_do, numbers_of}
 use Rattle.table.specs.Calls.{contents_in}
 use Rattle.points.specs.Points.{row_count}
 use Rattle.merging.specs.Merged.{merged, drawn_edges}
-use Rattle.flatten.specs.declared.Flat.{Flat}
+use Rattle.flatten.specs.Flat.{Flat}
 use Rattle.flatten.specs.Flat.{flat_edges}
 use Rattle.ordering.specs.declared.types.TableChart.{TableChart}
 use Rattle.ordering.specs.Calls.{drawn_in, Placing, chart_of_table}

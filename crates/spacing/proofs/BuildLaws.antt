@@ -8,7 +8,7 @@ use native.Mathlib.Omega.{arith}
 use lib.ListN.{length, take, length-append, get_or-eq_default}
 use lib.Seq.{get_or-take, take-take}
 use Rattle.graph.specs.declared.Edge.{Edge}
-use Rattle.graph.specs.Rows.{at, Best}
+use Rattle.graph.specs.Rows.{at, Best, Within}
 use Rattle.relaxation.specs.Limits.{gap_limit, row_limit}
 use Rattle.relaxation.specs.Network.{edges_of, Network, Bounded}
 use Rattle.relaxation.proofs.EdgesLaws.{length-edges_of, edge_at}
@@ -16,9 +16,9 @@ use Rattle.buffers.proofs.SumLaws.{sum_low}
 use Rattle.spacing.specs.Limits.{max_xs, max_nodes, max_links, cost_limit}
 use Rattle.spacing.specs.Coordinates.{Costed, Among, BestX}
 use Rattle.spacing.specs.Auxiliary.{pull_edges, aux, aux_nodes}
-use Rattle.spacing.specs.declared.links.Links.{Links}
-use Rattle.spacing.specs.Links.{links_edges}
-use Rattle.spacing.specs.Flat.{costed_of, besides, Ordered, Priced, Spaceable, FoundX, NetworkSolved}
+use Rattle.flatten.specs.declared.EdgeLists.{EdgeLists}
+use Rattle.flatten.specs.Flat.{flat_edges}
+use Rattle.spacing.specs.Flat.{costed_of, besides, Ordered, Priced, Spaceable, FoundX}
 use Rattle.spacing.proofs.EdgeListLaws.{Every}
 use Rattle.spacing.proofs.AuxiliaryLaws.{aux-every, aux-within, lifted, lifted-low, lifted-rows}
 use Rattle.spacing.proofs.BestLaws.{best_x}
@@ -53,6 +53,11 @@ module _ (o : List (List ℕ)) (row order upper lower cost : List ℕ) (h : Orde
 
   nodes : aux_nodes n costed ≡ n + length upper
   nodes = ap (λ (k : ℕ). n + k) (length-costed_of upper lower cost)
+
+  pub built-within : Within (n + length upper) (aux n o costed)
+  built-within j b =
+      let k = aux-within n o costed among j b in
+      (omega (arith, k.0, nodes), omega (arith, k.1, nodes))
 
   low-gaps : Every (aux n o costed) (λ e. e.gap ≤ 1)
   low-gaps = aux-every (λ e. e.gap ≤ 1) n o costed (λ r i b k. omega arith) (λ k b. (omega arith, omega arith))
@@ -142,15 +147,18 @@ module _ (order row upper lower cost : List ℕ) (d : Spaceable order row upper 
       ap (λ (l : List Edge). l ++ pull_edges (length order) (costed_of upper lower cost))
       (besides-order row order o h.flat (λ r i b k. h.rows r i b k ∙ sym (zero-add r)))
 
-  module _ (l : Links) (e : links_edges l ≡ edges) where
+  module _ (l : EdgeLists max_links) (e : flat_edges l ≡ edges) where
     count : length l.from.items ≡ length edges
     count = sym (length-edges_of l.from.items l.to.items l.gap.items l.weight.items) ∙ ap length e
 
     short : length l.from.items ≤ max_links
     short = omega (arith, count, edges_few)
 
-    is : links_edges l ≡ aux (length order) d.o (costed_of upper lower cost)
+    is : flat_edges l ≡ aux (length order) d.o (costed_of upper lower cost)
     is = e ∙ edges-aux d.o d.ordered
+
+    pub links-within : Within (length order + length upper) (flat_edges l)
+    links-within = rw is (built-within d.o row order upper lower cost d.ordered d.priced d.few)
 
     pub links-network : Network l.from.items l.to.items l.gap.items l.weight.items (length order + length upper)
     links-network =
@@ -166,9 +174,9 @@ module _ (order row upper lower cost : List ℕ) (d : Spaceable order row upper 
     links-sizes = (omega (arith, d.few, d.priced.few), short)
 
     -- The solver's rows of the network, at the points, are the best x.
-    pub found-x : (xs : List ℕ) → NetworkSolved (length order + length upper) l.from.items l.to.items l.gap.items l.weight.items xs
+    pub found-x : (xs : List ℕ) → Best (length order + length upper) (flat_edges l) (take (length order + length upper) xs) → length xs ≡ max_nodes
         → FoundX order row upper lower cost xs
-    found-x xs s =
+    found-x xs solved-rows long =
         record {
           best = best;
           is = λ o h. best-is-xs_of (length order) o costed (among o h) (take (length order) xs) (best o h);
@@ -178,7 +186,7 @@ module _ (order row upper lower cost : List ℕ) (d : Spaceable order row upper 
                 get_or-take (length order) xs p 0 b,
                 x_below (length order) d.o costed (among d.o d.ordered) (take (length order) xs) (best d.o d.ordered) p b,
               );
-          long = s.long;
+          long = long;
         }
       where
         costed : List Costed
@@ -197,7 +205,7 @@ module _ (order row upper lower cost : List ℕ) (d : Spaceable order row upper 
         solved : (o : List (List ℕ)) → Ordered o row order → Best (aux_nodes (length order) costed) (aux (length order) o costed) rows
         solved o h =
             let n : aux_nodes (length order) costed ≡ length order + length upper = ap (λ (k : ℕ). length order + k) (length-costed_of upper lower cost) in
-            rw n (rw (e ∙ edges-aux o h) at s.best)
+            rw n (rw (e ∙ edges-aux o h) at solved-rows)
 
         best : (o : List (List ℕ)) → Ordered o row order → BestX (length order) o costed (take (length order) xs)
         best o h = rw front at (best_x (length order) o costed (among o h) rows (solved o h))

@@ -12,26 +12,10 @@ use lib.Seq.{take-suc, take_all, length-take-le}
 use borrow.Author.Tests.{eq-eqb, ne_eqb}
 use Rattle.graph.specs.declared.Edge.{Edge}
 use Rattle.graph.specs.Rows.{at}
-use Rattle.relaxation.specs.Network.{edges_of}
 use Rattle.buffers.proofs.ListLaws.{at_tail}
 use Rattle.spacing.specs.Coordinates.{Costed, no_costed}
 use Rattle.spacing.specs.Auxiliary.{beside, pull, pull_edges}
 use Rattle.spacing.specs.Flat.{costed_of, beside_if, besides}
-
-pub edges-snoc : (from to gap weight : List ℕ) (a b g w : ℕ) → length to ≡ length from → length gap ≡ length from → length weight ≡ length from
-    → edges_of (from ++ a ∷ []) (to ++ b ∷ []) (gap ++ g ∷ []) (weight ++ w ∷ [])
-    ≡ edges_of from to gap weight ++ record { from = a; to = b; gap = g; weight = w } ∷ []
-unfolding edges_of
-edges-snoc [] [] [] [] a b g w p q r = refl
-edges-snoc [] (y ∷ to) gap weight a b g w p q r = absurd (omega arith)
-edges-snoc [] [] (z ∷ gap) weight a b g w p q r = absurd (omega arith)
-edges-snoc [] [] [] (v ∷ weight) a b g w p q r = absurd (omega arith)
-edges-snoc (x ∷ from) [] gap weight a b g w p q r = absurd (omega arith)
-edges-snoc (x ∷ from) (y ∷ to) [] weight a b g w p q r = absurd (omega arith)
-edges-snoc (x ∷ from) (y ∷ to) (z ∷ gap) [] a b g w p q r = absurd (omega arith)
-edges-snoc (x ∷ from) (y ∷ to) (z ∷ gap) (v ∷ weight) a b g w p q r =
-    ap (λ (l : List Edge). record { from = x; to = y; gap = z; weight = v } ∷ l)
-    (edges-snoc from to gap weight a b g w (omega arith) (omega arith) (omega arith))
 
 -- ---- the edge of two points that follow each other
 

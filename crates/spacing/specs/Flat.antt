@@ -2,9 +2,8 @@
 use Rattle.std.specs.Prelude.{◌≡◌, cond, ℕ, zero, suc, ◌≤◌, ◌<◌, eqb, length, take}
 use mathlib.Core.List.{List, [], ◌∷◌, ◌++◌, flatten, tail}
 use Rattle.graph.specs.declared.Edge.{Edge}
-use Rattle.graph.specs.Rows.{at, Best}
+use Rattle.graph.specs.Rows.{at}
 use Rattle.buffers.specs.Lists.{Below, occurs}
-use Rattle.relaxation.specs.Network.{edges_of}
 use Rattle.spacing.specs.Limits.{max_xs, max_segments, max_nodes, cost_limit}
 use Rattle.spacing.specs.Coordinates.{Costed, row_in, BestX}
 use Rattle.spacing.specs.Auxiliary.{beside}
@@ -53,9 +52,4 @@ pub record FoundX (order row upper lower cost xs : List ℕ) : Type 0 where
   pub best : (o : List (List ℕ)) → Ordered o row order → BestX (length order) o (costed_of upper lower cost) (take (length order) xs)
   pub is : (o : List (List ℕ)) → Ordered o row order → xs_of (length order) o (costed_of upper lower cost) ≡ take (length order) xs
   pub low : (p : ℕ) → p < length order → at xs p < length order
-  pub long : length xs ≡ max_nodes
-
--- best rows of the edges in flat lists, in the first n entries of an array
-pub record NetworkSolved (n : ℕ) (from to gap weight xs : List ℕ) : Type 0 where
-  pub best : Best n (edges_of from to gap weight) (take n xs)
   pub long : length xs ≡ max_nodes

@@ -3,6 +3,4 @@ pub mod Limits
 pub mod Coordinates
 pub mod Auxiliary
 pub mod Trial
-pub mod Even
 pub mod Flat
-pub mod Links

@@ -20,7 +20,7 @@ use Rattle.points.specs.Points.{point_rows}
 use Rattle.points.proofs.PointLaws.{points-length}
 use Rattle.merging.specs.declared.MergedEdge.{MergedEdge}
 use Rattle.merging.specs.Merged.{merged, drawn_edges}
-use Rattle.flatten.specs.declared.Flat.{Flat}
+use Rattle.flatten.specs.Flat.{Flat}
 use Rattle.flatten.specs.Flat.{flat_edges}
 use Rattle.ordering.specs.declared.types.TableChart.{TableChart}
 use Rattle.ordering.specs.Calls.{drawn_in, Placing, point_count}

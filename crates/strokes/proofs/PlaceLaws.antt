@@ -10,7 +10,7 @@ use Rattle.graph.specs.Rows.{at}
 use Rattle.buffers.specs.Lists.{Below}
 use Rattle.buffers.specs.Written.{Stored}
 use Rattle.buffers.proofs.ListLaws.{at_low}
-use Rattle.flatten.specs.declared.Flat.{Flat}
+use Rattle.flatten.specs.Flat.{Flat}
 use Rattle.flatten.specs.Flat.{flat_edges}
 use Rattle.points.specs.Points.{point_rows}
 use Rattle.points.specs.Laying.{edges_between}

@@ -2,7 +2,7 @@
 use Rattle.std.specs.Prelude.{◌≡◌, List, ℕ}
 use Rattle.graph.specs.Rows.{at}
 use Rattle.points.specs.Points.{point_rows}
-use Rattle.flatten.specs.declared.Flat.{Flat}
+use Rattle.flatten.specs.Flat.{Flat}
 use Rattle.flatten.specs.Flat.{flat_edges}
 use Rattle.coordinates.specs.Calls.{ChartX, chart_xs}
 use Rattle.corners.specs.declared.Stroke.{Stroke}

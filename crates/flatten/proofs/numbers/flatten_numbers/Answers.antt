@@ -10,7 +10,7 @@ edge_at-requires c = omega (arith, records-length c.args.numbers.now)
 
 pub push-requires : goal.push-requires
 push-requires c =
-    let count = records-length c.args.numbers.now in copy-room (records_of c.args.numbers.now) _ _ c.loop-i.invariant (omega (arith, count)) (omega (arith, count))
+    let count = records-length c.args.numbers.now in (omega arith, copy-room (records_of c.args.numbers.now) _ _ c.loop-i.invariant (omega (arith, count)) (omega (arith, count)))
 
 pub loop-i-preserved : goal.loop-i-preserved
 loop-i-preserved c =

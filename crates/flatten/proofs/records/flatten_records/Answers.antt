@@ -4,7 +4,7 @@ use Rattle.flatten.proofs.FlattenLaws.{copy-room, copy-all, copied-few, copied-n
 use Rattle.flatten.proofs.records.flatten_records.Goals as goal
 
 pub push-requires : goal.push-requires
-push-requires c = copy-room c.args.records.now _ _ c.loop-e.invariant (omega arith) (omega arith)
+push-requires c = (omega arith, copy-room c.args.records.now _ _ c.loop-e.invariant (omega arith) (omega arith))
 
 pub returns-after-loop-e : goal.returns-after-loop-e
 returns-after-loop-e c = copy-all c.args.records.now _ _ c.loop-e.invariant (omega arith) ∙ sym (copied-few c.args.records.now (omega arith))

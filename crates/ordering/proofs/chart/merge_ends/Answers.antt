@@ -9,9 +9,11 @@ bounds-turned-first c =
     omega (arith, first-in c.args.edges.now (c.as_slice-line-items.ensures.value ∙ c.merge_edges-lines.ensures) c.loop-line.line-index c.loop-line-test.true, c.requires.turned_len)
 
 pub push-requires : goal.push-requires
-push-requires c =
-    drawn-room c.args.edges.now (c.as_slice-line-items.ensures.value ∙ c.merge_edges-lines.ensures) c.loop-line.line-index c.loop-line-test.true c.args.turned.now
-    c.requires.mergeable.few c.loop-line.invariant
+push-requires c = (
+  omega arith,
+  drawn-room c.args.edges.now (c.as_slice-line-items.ensures.value ∙ c.merge_edges-lines.ensures) c.loop-line.line-index c.loop-line-test.true c.args.turned.now
+      c.requires.mergeable.few c.loop-line.invariant,
+)
 
 pub loop-line-preserved : goal.loop-line-preserved
 loop-line-preserved c =

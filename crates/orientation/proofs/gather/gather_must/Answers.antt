@@ -1,4 +1,5 @@
 use mathlib.Core.Path.{ap, ◌∙◌}
+use native.Mathlib.Omega.{arith}
 use Rattle.flatten.specs.Flat.{flat_edges}
 use Rattle.orientation.proofs.GatherLaws.{must-start, must-room, must-past, must-more}
 use Rattle.orientation.proofs.gather.gather_must.Goals as goal
@@ -8,7 +9,7 @@ pub loop-e-init : goal.loop-e-init
 loop-e-init c = must-start c.args.edges.now _ c.new-must.ensures
 
 pub push-requires : goal.push-requires
-push-requires c = must-room c.args.edges.now _ _ c.loop-e.invariant c.loop-e-test.true c.requires
+push-requires c = (omega arith, must-room c.args.edges.now _ _ c.loop-e.invariant c.loop-e-test.true c.requires)
 
 pub loop-e-preserved : goal.loop-e-preserved
 loop-e-preserved c =

@@ -7,7 +7,7 @@ use Rattle.std.proofs.lemmas.Iterator.{YieldsList-from_slice, YieldsList-from_zi
 use Rattle.std.proofs.lemmas.Iterator.Consumers.{YieldsList-from_enumerate, YieldsList-turn, YieldsList-end}
 use Rattle.std.proofs.lemmas.List.{length_push}
 use Rattle.buffers.proofs.ZipLaws.{numbered-triples, numbered-triple-at}
-use Rattle.spacing.specs.Links.{links_edges}
+use Rattle.flatten.specs.Flat.{flat_edges}
 use Rattle.spacing.proofs.ExtendLaws.{pulling-start, pulling-count, pulling-turn, pulling-end}
 use Rattle.spacing.proofs.link.link_segments.Goals as goal
 
@@ -30,7 +30,7 @@ push-requires-in-loop-k c =
       pulling-count c.loop-k.invariant,
       c.requires.room,
       ap length c.push.ensures,
-      length-append (links_edges c.loop-k.links) (c.pulling.result ∷ []),
+      length-append (flat_edges c.loop-k.links) (c.pulling.result ∷ []),
     )
 
 pub loop-k-preserved : goal.loop-k-preserved
