@@ -29,7 +29,7 @@ pub fn find_loop(arcs: &Arcs<'_>, cap: usize, y: &mut [usize], seen: &mut [bool]
 }
 
 // The lowest node that edges lead back to. Each node in turn marks what it reaches, until it is reached itself or no edge is open. The
-// marks are scratch.
+// marks are scratch. Document 01 asks for these nested loops, left by a label.
 fn lowest_on_loop(arcs: &Arcs<'_>, seen: &mut [bool]) -> Option<usize>
     requires { arcs.now.n ≤ length seen.old }
     ensures { LoopIs arcs.now.n (edges_of arcs.now.from.now arcs.now.to.now [] []) result }

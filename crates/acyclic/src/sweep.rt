@@ -14,7 +14,7 @@ pub fn find_from<F: Fn(usize) -> bool>(m: usize, start: usize, test: F) -> Optio
     find_between(0, start, &test)
 }
 
-// The first number from lo to below hi that passes the test.
+// The first number from lo to below hi that passes the test. By number, which is what the test takes.
 fn find_between<F: Fn(usize) -> bool>(lo: usize, hi: usize, test: &F) -> Option<usize>
     requires { (i : ℕ) → i < hi → F.pre test.now i }
     ensures { ScanIs (λ i. F.post test.now i true) (λ i. F.post test.now i false) lo hi result }

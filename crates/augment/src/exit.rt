@@ -65,7 +65,7 @@ impl Residual<'_, '_> {
         )
     }
 
-    // The least slack of the edges that leave the marked set, and an edge that has it.
+    // The least slack of the edges that leave the marked set, and an edge that has it. By number, which is part of the answer.
     fn least_slack(&self) -> Exit
         ensures { LeastIs self.now.arcs.from.now self.now.arcs.to.now self.now.arcs.gap.now self.now.flow.now self.now.y.now self.now.rank.now result.edge result.slack }
     {
@@ -86,7 +86,7 @@ impl Residual<'_, '_> {
 }
 
 // An edge that leaves the marked set with the least slack: one of a list, edges out of marked nodes first, or else what a look at all
-// edges gives.
+// edges gives. Rows and flow are parameters of their own, since of a slice in a struct the caller no longer knows what it holds.
 pub fn next_exit<'s>(
     arcs: &Arcs<'_>,
     flow: &'s [usize],

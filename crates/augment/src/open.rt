@@ -58,7 +58,7 @@ impl Residual<'_, '_> {
         tail_miss(self.rank[self.arcs.from[i]], self.flow[i]) == 0
     }
 
-    // The same of one of the two, by the side that is sought.
+    // The same of one of the two, by the side that is sought. There are two sides, so this is a match and takes no closure.
     fn is_open(&self, v: usize, i: usize, side: Side) -> bool
         requires v_lt_n { v < self.now.arcs.n }
         requires v_nonzero { 0 < at self.now.rank.now v }
@@ -71,7 +71,7 @@ impl Residual<'_, '_> {
         }
     }
 
-    // The first edge, from a link on, that leads out of the marked set from node v.
+    // The first edge, from a link on, that leads out of the marked set from node v. A list is walked by its links.
     fn find_open(&self, next: &[usize], v: usize, start: usize, side: Side) -> Option<usize>
         requires v_lt_n { v < self.now.arcs.n }
         requires v_nonzero { 0 < at self.now.rank.now v }

@@ -32,6 +32,7 @@ pub fn step_back(
 }
 
 // d pushed over the parent edges, from start back to s.
+// Rows and flow are parameters of their own, since of a slice in a struct the caller no longer knows what it holds.
 pub fn push_flow(
     arcs: &Arcs<'_>,
     y: &[usize],

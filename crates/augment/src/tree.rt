@@ -40,6 +40,7 @@ pub fn mark_end(
 }
 
 // The marked ones of the first n entries of y raised by d.
+// By index: of a loop over `iter_mut` beside another slice nothing is known of what it wrote; both slices go on behind the nodes.
 pub fn raise_marked(y: &mut [usize], tree: &Tree<'_>, n: usize, d: usize)
     requires n_in_bounds { n ≤ length y.old }
     requires n_in_bounds_2 { n ≤ length tree.now.rank.now }
@@ -57,6 +58,7 @@ pub fn raise_marked(y: &mut [usize], tree: &Tree<'_>, n: usize, d: usize)
 }
 
 // Marks and raises, from s alone on, until a marked node wants something: that node.
+// Rows and flow are parameters of their own, since of a slice in a struct the caller no longer knows what it holds.
 pub fn grow_tree(
     arcs: &Arcs<'_>,
     y: &mut [usize],

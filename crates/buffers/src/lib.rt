@@ -11,6 +11,7 @@ ghost use Rattle.buffers.specs.Written.{Stored};
 pub use crate::keeping::keep_fewer;
 
 // Every entry copied to the front of a slice. Answers how many they are.
+// It is `copy_from_slice` with the number of entries, from which the layout of rows goes on.
 pub fn copy_front(values: &[usize], out: &mut [usize]) -> usize
     requires { length values.now ≤ length out.old }
     ensures { Stored out.old 0 values.now out.new result }
@@ -20,6 +21,7 @@ pub fn copy_front(values: &[usize], out: &mut [usize]) -> usize
 }
 
 // The first n numbers put at the front of a buffer of 16-bit numbers.
+// By index: of a loop over `iter_mut` beside another slice nothing is known of what it wrote; both slices are longer than n.
 pub fn store_u16(values: &[usize], n: usize, out: &mut [u16])
     requires n_in_bounds { n ≤ length values.now }
     requires n_in_bounds_2 { n ≤ length out.old }

@@ -68,6 +68,7 @@ impl Walks {
     }
 
     // Every row extended by the edge from a to b. The marks that are new come from a copy of row b, since row b may itself be extended.
+    // By number: rows handed out by an iterator would lend the marks while the other fields are read.
     fn extend_rows(&mut self, fresh: &[bool], a: usize, b: usize)
         requires long { length fresh.now ≡ self.old.n }
         requires ends { (a < self.old.n) × (b < self.old.n) }

@@ -27,7 +27,7 @@ fn factor_at(j: usize, k: usize) -> usize
     INNER_FACTOR
 }
 
-// The costs of the segments of a line with k dummies, behind those before.
+// The costs of the segments of a line with k dummies, behind those before. By number, on which the factor depends.
 fn cost_line(weight: usize, k: usize, costs: &mut ArrayVec<usize, MAX_SEGMENTS>)
     requires weight_le_max_added { weight ≤ max_added }
     requires room { length costs.old.items + k < max_segments }

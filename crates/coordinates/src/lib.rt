@@ -17,8 +17,8 @@ use ordering::chart_table;
 use outcome::Refusal;
 use spacing::limits::MAX_XS;
 
-// The x of each point of a table's chart, by the point's number, to the first entries of a buffer, and how many these are. Refuses as the whole chart does, then more
-// points than get an x, then a buffer with fewer entries than it is to get.
+// The x of each point of a table's chart, by the point's number, to the first entries of a buffer, and how many these are. Refuses as the
+// whole chart does, then more points than get an x, then a buffer with fewer entries than it is to get.
 pub fn find_xs(bytes: &[u8], xs: &mut [u16]) -> Result<usize, Refusal>
     ensures result_value { xs_numbers result ≡ (xs_call bytes.now xs.old).numbers }
     ensures xs_after { xs.new ≡ (xs_call bytes.now xs.old).xs }

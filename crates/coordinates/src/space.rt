@@ -8,6 +8,7 @@ use spacing::find_x;
 use spacing::limits::{MAX_NODES, MAX_SEGMENTS, MAX_XS};
 
 // The best x of the points of lines between steps in their rows, in the first entries of the answer.
+// Rows and segments are laid in slices, so they come with their counts.
 pub fn space_lines(rows: &[usize], ends: &Flat, order: &[u16]) -> [usize; MAX_NODES]
     requires { Lined rows.now ends.now order.now }
     ensures { LinesSpaced rows.now ends.now order.now result }

@@ -20,6 +20,7 @@ pub struct Rows<'a> {
 }
 
 // The crossings of a whole chart, of which the side has the segments below each point. `counts` and `blocks` are lent for the work.
+// By number: a row is its number in `first`.
 pub fn count_crossings(
     rows: &Rows<'_>,
     side: &Side<'_>,

@@ -16,6 +16,7 @@ use relaxation::scratch::{Hints, Tree};
 use transport::stock::Stock;
 
 // As much as can come to node t and t wants, sent there from node s over the tree; what s has still to send.
+// Rows and flow are parameters of their own, since of a slice in a struct the caller no longer knows what it holds.
 fn send_flow(
     net: &Net<'_>,
     y: &mut [usize],
@@ -39,6 +40,7 @@ fn send_flow(
 }
 
 // What node s has to send, sent: a tree from s to a node with demand, and a push along it, until s has no supply.
+// Rows and flow are parameters of their own here too.
 pub fn drain_node(
     net: &Net<'_>,
     y: &mut [usize],

@@ -15,6 +15,7 @@ use rows::types::{Row, RowsFound};
 use table::limits::{MAX_EDGES, MAX_GAP, MAX_STEPS, MAX_WEIGHT, MIN_GAP};
 
 // The answer for n steps and m lent edges, and its rows in a buffer.
+// Of a list that is too long none is copied, so its length comes beside it.
 pub fn answer_lent(n: usize, m: usize, flat: &Flat, rows: &mut [Row]) -> Result<(), Refusal>
     ensures { LentAnswered n m flat.now rows.old rows.new result }
 {

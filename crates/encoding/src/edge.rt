@@ -47,6 +47,7 @@ fn write_edge<const CAP: usize>(edge: TableEdge, edition: usize, page: &mut Arra
 }
 
 // Edges behind their count.
+// A loop of its own, as of the steps: a closure that puts an item on the page would need a clause longer than the loop.
 #[tactic(auto, unfolding(crate::specs::Shortest::short_list))]
 pub fn write_edges<const CAP: usize>(
     edges: &[TableEdge],

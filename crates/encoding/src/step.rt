@@ -47,7 +47,7 @@ fn write_step<const CAP: usize>(bytes: &[u8], step: Step, page: &mut ArrayVec<u8
     write_name(&bytes[step.start..step.start + step.len], page);
 }
 
-// Steps behind their count.
+// Steps behind their count. A loop of its own: a closure that puts an item on the page would need a clause longer than the loop.
 #[tactic(auto, unfolding(crate::specs::Shortest::short_list))]
 pub fn write_steps<const CAP: usize>(bytes: &[u8], steps: &[Step], page: &mut ArrayVec<u8, CAP>)
     requires writable_steps { WritableSteps bytes.now steps.now }

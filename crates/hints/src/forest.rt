@@ -16,6 +16,7 @@ struct Forest<'a> {
 }
 
 // The row at the other end of a tight edge of gap g that has one end in row `row`.
+// There are two sides, so this is a match and takes no closure.
 fn row_beyond(row: usize, g: usize, side: Side) -> usize {
     match side {
         Side::Heads => row.wrapping_add(g),
@@ -61,7 +62,7 @@ impl Forest<'_> {
         self.reach_node(v, a);
     }
 
-    // The ends of the edges in one list of node v.
+    // The ends of the edges in one list of node v. A list is walked by its links.
     fn reach_list(&mut self, arcs: &Arcs<'_>, y: &[usize], list: &Links<'_>, side: Side, v: usize)
         ensures { length self.new.queue.now ≡ length self.old.queue.now }
     {
@@ -74,6 +75,7 @@ impl Forest<'_> {
     }
 
     // All that is reached from a root, put in the queue. A root's parent edge is no edge.
+    // A `while`, since the queue grows while it is read.
     fn grow_root(
         &mut self,
         arcs: &Arcs<'_>,

@@ -5,7 +5,7 @@ ghost use Rattle.std.specs.Prelude.{◌≡◌, ◌≤◌, length, drop};
 use relaxation::arcs::next_link;
 use relaxation::net::{Arcs, Links, Net};
 
-// A number from it on stands for one below 0.
+// A number from it on stands for one below 0: sums go round the end of a word, in room that is lent as numbers.
 const BELOW_ZERO: usize = 9223372036854775808;
 
 // w put on entry v, round the end of a word.
@@ -34,7 +34,7 @@ fn edge_room(arcs: &Arcs<'_>, y: &[usize], a: usize) -> usize
     y[arcs.to[a]].wrapping_sub(arcs.gap[a])
 }
 
-// The row up to which the edges of one list let their tail go; the last of all where there are none.
+// The row up to which the edges of one list let their tail go; the last of all where there are none. A list is walked by its links.
 fn list_room(arcs: &Arcs<'_>, y: &[usize], next: &[usize], first: usize) -> usize
     requires { arcs.now.n ≤ length y.now }
 {

@@ -1,6 +1,7 @@
 // The calls for C. Slices are a pointer and a length; answers are packed into one word, beside which a stroke has its two floats. Each
 // contract says what the header's functions read out of the word, in the numbers that the call tells, which word it is, and what the lent
-// buffers hold at the end. All of it is in the specs of `words` and of the layers below.
+// buffers hold at the end. All of it is in the specs of `words` and of the layers below. Each call is one match of an answer to its word, as
+// the C interface has it.
 #![tactic(auto)]
 
 ghost use Rattle.std.specs.Prelude.{◌≡◌};

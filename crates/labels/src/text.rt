@@ -6,7 +6,7 @@ ghost use Rattle.labels.specs.Text.{decimal, blanked};
 use arrayvec::ArrayVec;
 use itoa::Buffer;
 
-// All bytes of a text.
+// All bytes of a text. It is the kit's call with the clause that there is room.
 pub fn put_text<const CAP: usize>(text: &[u8], page: &mut ArrayVec<u8, CAP>)
     requires room { array_vec_len page.old + length text.now ≤ CAP }
     ensures { page.new.items ≡ page.old.items ++ text.now }

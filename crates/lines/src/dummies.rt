@@ -30,7 +30,7 @@ pub fn lay_dummies(
     all
 }
 
-// Those of one edge, from row `top` to row `bottom`.
+// Those of one edge, from row `top` to row `bottom`. It counts rows and indexes nothing.
 fn lay_edge<const CAP: usize>(
     edge: usize,
     top: usize,

@@ -22,7 +22,7 @@ pub struct Sheet<'a> {
 }
 
 impl Sheet<'_> {
-    // The line of each row, of `height` rows.
+    // The line of each row, of `height` rows. It counts rows and indexes nothing.
     pub fn put_rows<const CAP: usize>(&self, height: usize, page: &mut ArrayVec<u8, CAP>)
         requires room { array_vec_len page.old + length (lines_from (label_text self.now.labels.bytes.now self.now.labels.steps.now self.now.labels.dummies.now self.now.labels.turned.now) (self.now.ys.now ++ dummy_rows self.now.labels.dummies.now) 0 height self.now.order.now) ≤ CAP }
         ensures { page.new.items ≡ page.old.items ++ lines_from (label_text self.now.labels.bytes.now self.now.labels.steps.now self.now.labels.dummies.now self.now.labels.turned.now) (self.now.ys.now ++ dummy_rows self.now.labels.dummies.now) 0 height self.now.order.now }

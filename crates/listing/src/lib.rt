@@ -21,6 +21,7 @@ pub struct TooShort {
 }
 
 // What is printed for a table: how many bytes, which are the first of the buffer. No listing has more than MAX_LISTING bytes.
+// A buffer that is too short stays as it was, so its length is asked first.
 pub fn write_listing(bytes: &[u8], out: &mut [u8]) -> Result<usize, TooShort>
     ensures result_value { listing_numbers result ≡ (listing_call bytes.now out.old).numbers }
     ensures out_after { out.new ≡ (listing_call bytes.now out.old).out }

@@ -38,6 +38,7 @@ pub enum Refusal {
 
 impl Refusal {
     // The number that the documents give a refusal.
+    // One arm a refusal: the documents give the numbers, and the order of the cases promises none.
     pub fn number(self) -> usize
         ensures { result ≡ number_of self }
     {

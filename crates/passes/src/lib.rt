@@ -62,6 +62,7 @@ fn settle_row(
 }
 
 // A pass down: the rows from row 1 on, each by the row above, of which the side has the segments.
+// By number: a row is its number in `first`.
 pub fn pass_down(
     side: &Side<'_>,
     first: &[usize],
@@ -80,7 +81,7 @@ pub fn pass_down(
     }
 }
 
-// A pass up: the rows from the second-last to row 0, each by the row below, of which the side has the segments.
+// A pass up: the rows from the second-last to row 0, each by the row below, of which the side has the segments. By number, as a pass down.
 pub fn pass_up(
     side: &Side<'_>,
     first: &[usize],

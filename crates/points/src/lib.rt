@@ -37,6 +37,7 @@ impl Layout<'_> {
     }
 
     // The row of each point: of the nodes, and then of the dummies by edge. Answers how many there are.
+    // Document 01 asks for arrays of 1,024 rows, so how many are in use is told beside them.
     pub fn lay_rows(&self, row: &mut [usize]) -> usize
         requires { length (point_rows self.now.rows.now (edges_between self.now.from.now self.now.to.now)) ≤ length row.old }
         ensures { Stored row.old 0 (point_rows self.now.rows.now (edges_between self.now.from.now self.now.to.now)) row.new result }
@@ -51,6 +52,7 @@ impl Layout<'_> {
     }
 
     // The ends of each segment, by edge and then downwards. Answers how many segments there are.
+    // They lie in arrays of a constant size, as the rows of points do.
     pub fn lay_segments(&self, upper: &mut [usize], lower: &mut [usize]) -> usize
         requires upper_room { length (segments self.now.rows.now (edges_between self.now.from.now self.now.to.now)) ≤ length upper.old }
         requires lower_room { length (segments self.now.rows.now (edges_between self.now.from.now self.now.to.now)) ≤ length lower.old }

@@ -44,6 +44,7 @@ pub fn find_name(bytes: &[u8], i: usize) -> Result<Name, Refusal>
 }
 
 // The name of step i, as that part of the table. An empty part means refused: refuse_name tells the number.
+// No Option: document 01 asks for a part of the lent table.
 pub fn name_step(bytes: &[u8], i: usize) -> &[u8]
     ensures { PartOf bytes.entry (stretch_of (name_found bytes.now i)) result }
 {
@@ -57,6 +58,7 @@ pub fn name_step(bytes: &[u8], i: usize) -> &[u8]
 }
 
 // The number of the refusal of find_name and name_step, or 0 where there is a name.
+// A number and no Option: document 01 has 0 where there is a name.
 pub fn refuse_name(bytes: &[u8], i: usize) -> usize
     ensures { result ≡ refusal_in (name_call bytes.now i) }
 {

@@ -35,7 +35,7 @@ fn many<T: Default + Drop, const CAP: usize, F: Fn(usize) -> Result<(T, usize), 
     Ok((list, next))
 }
 
-// The count of steps, then the steps.
+// The count of steps, then the steps. Two readers of two lines each: what they share is `many`.
 #[tactic(auto, unfolding(table::specs::Table::steps_within))]
 pub fn steps_at(source: &Source<'_>, at: usize) -> ListRead<Step, MAX_STEPS>
     ensures { list_of result ≡ steps_at source.now.rule source.now.bytes.now at }

@@ -23,6 +23,7 @@ pub const MAX_LENT: usize = MAX_EDGES + 8;
 pub const MAX_READ: usize = (HEAD + MAX_LENT * FIELDS) * WORD;
 
 // The records as edges. Those that no list has room for are left out.
+// By number, as the definition has them: words that are not there are 0.
 #[tactic(auto, unfolding(crate::specs::Input::first_edges))]
 pub fn read_edges(bytes: &[u8]) -> ArrayVec<Edge, MAX_LENT>
     ensures { result.items ≡ edges_in bytes.now }

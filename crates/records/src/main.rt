@@ -19,7 +19,7 @@ use std::io;
 // The most entries of a buffer that can be lent.
 const MAX_ENTRIES: usize = 255;
 
-// The rows of the first n entries of a buffer.
+// The rows of the first n entries of a buffer. As many as there are steps, of a buffer of another length.
 fn print_rows(rt: &impl Print, rows: &[Row], n: usize) -> io::Result<()> {
     print!(rt; "rows")?;
     for row in rows.iter().take(n) {

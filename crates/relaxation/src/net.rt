@@ -1,4 +1,5 @@
-// The edges of a network as slices, one a field, and lists of them by node.
+// The edges of a network as slices, one a field, and lists of them by node. How long rows and a flow are stays a clause of each function:
+// both are written between the calls, so that they stand in no struct with the edges.
 ghost use Rattle.relaxation.specs.Network.{Shaped, Network};
 
 // Edges and the number of nodes: edge a goes from node `from[a]` to node `to[a]` and asks for `gap[a]` rows between them.

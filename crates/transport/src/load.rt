@@ -37,7 +37,7 @@ pub fn load_edge(
     stock.demand[rows.arcs.to[e]] += w;
 }
 
-// All edges taken in.
+// All edges taken in. By number, since an edge is its number in five slices.
 pub fn load_edges(rows: &Rows<'_>, weight: &[usize], flow: &mut [usize], stock: &mut Stock<'_>)
     requires weight_len { length weight.now ≡ length rows.now.arcs.from.now }
     requires weight_bound { sum weight.now < weight_limit }

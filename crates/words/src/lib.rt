@@ -66,6 +66,7 @@ pub fn refusal_word(f: Refusal) -> u64
 }
 
 // The step that comes with a loop; 0 with any other refusal.
+// A number and no Option: the C interface has 0 there where no step comes with it.
 fn loop_step(f: Refusal) -> usize
     ensures { result ≡ step_of f }
 {

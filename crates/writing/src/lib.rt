@@ -62,6 +62,7 @@ pub fn write_page<const CAP: usize>(
 }
 
 // Bytes that were made on a page, to a lent buffer that has room for them.
+// A buffer that is too short stays as it was, so its length is asked first.
 pub fn fit_text(text: &[u8], out: &mut [u8]) -> Result<usize, Refusal>
     ensures result_value { write_numbers result ≡ (write_end (done text.now) out.old).numbers }
     ensures out_after { out.new ≡ (write_end (done text.now) out.old).out }
