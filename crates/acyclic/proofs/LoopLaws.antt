@@ -100,5 +100,5 @@ module _ (edges : List Edge) (y : ℕ → ℕ) (feasible : Feasible edges y) (ga
   pub feasible-free : LoopFree edges
   feasible-free = record { free = λ k w. omega (arith, walk-climbs w) }
 
-  pub feasible-None : (n : ℕ) → Within n edges → lowest_on_loop n edges ≡ None
-  feasible-None n within = (free-iff n edges within).0 feasible-free
+  pub feasible-none : (n : ℕ) → Within n edges → lowest_on_loop n edges ≡ None
+  feasible-none n within = (free-iff n edges within).0 feasible-free

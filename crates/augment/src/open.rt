@@ -1,4 +1,6 @@
 // An edge that leads out of the marked set with no slack, sought in the lists of the marked nodes.
+//
+// That a node is marked and an edge exists stays a clause: both are the arguments of that call.
 ghost use Rattle.std.specs.Prelude.{◌≡◌, ◌+◌, ◌-◌, ◌≤◌, ◌<◌, IsTrue, max, min, length};
 ghost use Rattle.graph.specs.Rows.{at};
 ghost use Rattle.augment.specs.Search.{LeavesAt, OpenIs};

@@ -1,4 +1,4 @@
-// Reads a table on standard input and prints its chart, or the line of its refusal.
+// Reads a table on standard input and prints its chart, or the line of its refusal. Like `convert` it reads, calls and writes.
 #![tactic(auto)]
 
 use intake::read_full;

@@ -1,4 +1,6 @@
 // Crossings of segments, counted row by row and by insertion: no pair of segments is looked at.
+//
+// `Countable` stays a clause, since it says that there is some order of the points.
 #![tactic(auto)]
 
 mod between;

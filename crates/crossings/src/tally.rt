@@ -71,6 +71,7 @@ impl Tally<'_> {
 }
 
 // The segments of the list from h on counted in. Answers the furthest position that is counted in now.
+// No method of `Tally`, whose facts do not hold between the two writes.
 pub fn raise_list(
     ends: &Ends<'_>,
     counts: &mut [usize],

@@ -12,7 +12,7 @@ use arrayvec::ArrayVec;
 use labels::text::put_text;
 use table::types::{Kind, Step};
 
-// A kind and the number that it carries.
+// A kind and the number that it carries. The numbers of kinds are the format's.
 fn write_kind<const CAP: usize>(kind: Kind, page: &mut ArrayVec<u8, CAP>)
     requires kind_in_range { KindInRange kind }
     requires room { array_vec_len page.old + length (short_kind kind) ≤ CAP }

@@ -3,6 +3,8 @@
 //
 // A point of the row is its present position. The crossings of pairs come in a table: what stands at i * MAX_ROW_POINTS + j are those of i
 // and j where i stands left of j.
+//
+// That a row has few points stays a clause: it is about the bytes of a lent slice, or a number.
 #![tactic(auto)]
 
 mod best;
@@ -28,7 +30,7 @@ pub struct RowFound {
     pub floor: usize,
 }
 
-// The present order of k points: each where it stands.
+// The present order of k points: each where it stands. It makes a list of places, and converts nothing.
 fn number_points(k: usize) -> ArrayVec<u8, MAX_ROW_POINTS>
     requires { k ≤ max_row_points }
     ensures { result.items ≡ run 0 k }

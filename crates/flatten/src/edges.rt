@@ -1,4 +1,6 @@
 // A table's edges, copied to flat lists.
+//
+// That there is a flag for each edge stays a clause: edges and flags come from two calls, one after the other.
 ghost use Rattle.std.specs.Prelude.{◌≡◌, ◌≤◌, length};
 ghost use Rattle.graph.specs.Directed.{directed_by};
 ghost use Rattle.table.specs.Limits.{max_edges};

@@ -25,7 +25,7 @@ pub struct TableEdge {
 }
 
 impl Edge {
-    // The edge as it is, or turned.
+    // The edge as it is, or turned. No conversion, since which of the two is an argument.
     pub fn directed(self, turned: bool) -> Edge
         ensures { result ≡ directed turned self }
     {

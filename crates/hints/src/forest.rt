@@ -42,6 +42,7 @@ impl Forest<'_> {
     }
 
     // The end of edge a, where it was not reached before and the edge, whose other end is in row `row`, is tight.
+    // Its side says which row is tight.
     fn reach_edge(&mut self, arcs: &Arcs<'_>, y: &[usize], side: Side, a: usize, row: usize)
         ensures { length self.new.queue.now ≡ length self.old.queue.now }
     {

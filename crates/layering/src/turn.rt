@@ -9,7 +9,7 @@ use outcome::Refusal;
 use table::limits::MAX_EDGES;
 
 // A flag for each edge, or the lowest step on a loop of must edges. Edges of which none is soft are all as they are, and the search for a
-// loop that finding rows begins with is enough.
+// loop that finding rows begins with is enough. n is the number of steps, and not of the edges.
 pub fn turn_edges(edges: &[TableEdge], n: usize) -> Result<ArrayVec<bool, MAX_EDGES>, Refusal>
     requires { Orientable n edges.now }
     ensures { EdgesTurned n edges.now result }

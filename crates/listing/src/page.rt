@@ -16,6 +16,7 @@ use ordering::chart_table;
 use ordering::types::TableChart;
 
 // The lines that the bytes are to print.
+// They are put together from a table, its chart and its bytes, none of which has a form to print of its own.
 pub fn print_page<const CAP: usize>(bytes: &[u8], page: &mut ArrayVec<u8, CAP>)
     requires room { array_vec_len page.old + max_listing ≤ CAP }
     ensures { page.new.items ≡ page.old.items ++ listing bytes.now }

@@ -1,5 +1,7 @@
 // The lowest rows. A caller may lend rows that it found by relaxing the edges itself: a look at every edge and every node tells whether
 // they are the lowest ones, and only where they are not are they found here.
+//
+// `Narrow` stays a clause here, where edges come without the weights of a `Net`, and so does the length of the marks, which are scratch.
 #![tactic(auto)]
 
 ghost use Rattle.std.specs.Prelude.{◌≡◌, ℕ, true, false, ◌+◌, ◌≤◌, ◌<◌, length, replicate};
@@ -70,7 +72,7 @@ fn prop_nodes(arcs: &Arcs<'_>, y: &[usize], mark: &mut [usize])
     }
 }
 
-// Whether a row is above 0 and its node is not marked.
+// Whether a row is above 0 and its node is not marked. The marks are numbers, since they lie in room that is lent as numbers.
 fn find_loose(y: &[usize], mark: &[usize]) -> bool
     requires { length mark.now ≤ length y.now }
     ensures { result ≡ false → (v : ℕ) → v < length mark.now → 0 < at y.now v → 0 < at mark.now v }

@@ -1,4 +1,6 @@
 // Best rows of a network of edges with gaps and weights, and a flow that certifies them: a primal-dual method with supply and demand by node.
+//
+// `Bounded` stays a clause: there are rows in it, and a fact of a type is a proposition with one proof.
 #![tactic(auto)]
 
 ghost use Rattle.std.specs.Prelude.{◌*◌, ◌≤◌, ◌<◌, List, ℕ, length};

@@ -1,4 +1,6 @@
 // Cycle removal: which of a table's soft edges are turned, so that no loop is left; and the loops of must edges, which no turning removes.
+//
+// `Orientable` stays a clause: edges and the number of steps come from two calls, one after the other.
 #![tactic(auto)]
 
 mod gather;
@@ -24,7 +26,7 @@ pub fn has_soft(edges: &[TableEdge]) -> bool
     edges.iter().any(|e| e.soft)
 }
 
-// The lowest of n steps on a loop of must edges.
+// The lowest of n steps on a loop of must edges. n is the number of steps, and not of the edges.
 pub fn find_must_loop(edges: &[TableEdge], n: usize) -> Option<usize>
     requires { Orientable n edges.now }
     ensures { result ≡ lowest_on_loop n (must_of edges.now) }
@@ -36,7 +38,7 @@ pub fn find_must_loop(edges: &[TableEdge], n: usize) -> Option<usize>
 }
 
 // Which of the edges are turned. A matrix says at any time which nodes walks over the edges that stand lead to: first those over the must
-// edges alone, then those over the soft ones too that are kept.
+// edges alone, then those over the soft ones too that are kept. n is the number of steps.
 pub fn orient_edges(edges: &[TableEdge], n: usize) -> ArrayVec<bool, MAX_EDGES>
     requires { Orientable n edges.now }
     ensures { result.items ≡ turned_edges n edges.now }

@@ -1,4 +1,6 @@
 // Passes over an order that is kept flat: row by row the points are put in order, and their positions stored.
+//
+// `Standing` stays a clause: it says that there is some order, and a fact of a type is a proposition with one proof.
 #![tactic(auto)]
 
 pub mod start;

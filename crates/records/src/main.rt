@@ -37,7 +37,7 @@ fn find_asked(bytes: &[u8], rows: &mut [Row]) -> Result<(), Refusal>
     find_rows_of_records(word_at(bytes, 0), &read_edges(bytes), rows)
 }
 
-// Prints it, for a buffer of as many entries as the input asks for.
+// Prints it, for a buffer of as many entries as the input asks for. A slice of rows has no form to print of its own.
 fn print_answer(rt: &impl Print, bytes: &[u8], rows: &mut [Row]) -> io::Result<()> {
     let entries = word_at(bytes, 1).min(rows.len());
     let lent = &mut rows[..entries];

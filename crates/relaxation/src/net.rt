@@ -2,7 +2,8 @@
 // both are written between the calls, so that they stand in no struct with the edges.
 ghost use Rattle.relaxation.specs.Network.{Shaped, Network};
 
-// Edges and the number of nodes: edge a goes from node `from[a]` to node `to[a]` and asks for `gap[a]` rows between them.
+// Edges and the number of nodes, in flat slices as document 01 asks of the row finder: edge a goes from node `from[a]` to node `to[a]` and
+// asks for `gap[a]` rows between them.
 #[derive(Clone, Copy)]
 pub struct Arcs<'a> {
     pub from: &'a [usize],

@@ -1,4 +1,6 @@
 // Relaxation: rows rise, from 0, until every edge is kept and every used edge is tight. They are then the lowest such rows.
+//
+// `Holder` stays a clause: there are rows in it, and a fact of a type is a proposition with one proof.
 ghost use Rattle.std.specs.Prelude.{◌≡◌, [], ◌+◌, ◌≤◌, ◌<◌, length};
 ghost use Rattle.relaxation.specs.Certificate.{Relaxed};
 ghost use Rattle.buffers.specs.Written.{word_limit};
@@ -74,7 +76,7 @@ fn lift_rows(arcs: &Arcs<'_>, flow: &[usize], y: &mut [usize])
     while sweep_edges(arcs, flow, y) {}
 }
 
-// The same from 0 on.
+// The same from 0 on. What it shares with `relax_above` is `lift_rows`: the two begin at other rows.
 pub fn relax_edges(arcs: &Arcs<'_>, flow: &[usize], y: &mut [usize])
     requires flow_len { length flow.now ≡ length arcs.now.from.now }
     requires n_in_bounds { arcs.now.n ≤ length y.old }

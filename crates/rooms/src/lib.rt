@@ -2,6 +2,8 @@
 //
 // An array has its size when the code is compiled, so that all that a chart may need would be cleared for every chart. There is room of two
 // sizes, and the order of a small chart is found in the smaller.
+//
+// `Scratch` and the length of the copy stay clauses: they are about lent scratch and the points, which come in two structs.
 #![tactic(auto)]
 
 ghost use Rattle.std.specs.Prelude.{◌≡◌, IsTrue, ◌+◌, ◌<◌, ◌≤◌, length};

@@ -31,6 +31,7 @@ pub fn link_points(order: &[u16], row: &[usize], links: &mut EdgeLists<MAX_LINKS
 }
 
 // The two edges of each segment, from its own node to its ends; the nodes of the segments are numbered from n on.
+// n is the number of points.
 pub fn link_segments(
     upper: &[usize],
     lower: &[usize],

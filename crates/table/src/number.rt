@@ -52,6 +52,7 @@ impl Source<'_> {
     }
 
     // A number from low to high; any other is refused for the reason given.
+    // Read and then judged, as are `name_byte_at` and `end_at`, each by a test and with a refusal of its own.
     #[tactic(auto, unfolding(crate::specs::Number::number_in))]
     pub fn number_in(
         &self,

@@ -1,4 +1,6 @@
 // Handing supply and demand over one edge: no matter which edge, the flow stays balanced with the weights but for supply and demand.
+//
+// What the flow and the stock are stays a clause: each call changes them. So does the bound of the weights, which come beside the edges.
 ghost use Rattle.std.specs.Prelude.{◌≡◌, ◌+◌, ◌≤◌, ◌<◌, length};
 ghost use Rattle.graph.specs.Rows.{at};
 ghost use Rattle.transport.specs.Flow.{Flows};

@@ -2,6 +2,8 @@
 //
 // The calls take any input, end, and have no condition. Their contracts put the answer, told in numbers, and the buffer equal to what a
 // definition of specs/Calls.antt makes of the input.
+//
+// That there is room stays a clause: it is what the page has at that moment.
 #![tactic(auto)]
 
 pub mod limits;
