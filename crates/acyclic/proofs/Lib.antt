@@ -6,7 +6,6 @@ pub mod LoopLaws
 pub mod BoundLaws
 pub mod FoundLaws
 pub mod SetLaws
-pub mod ScanLaws
 pub mod MarkLaws
 pub mod SettleLaws
 pub mod RunLaws

@@ -2,7 +2,7 @@
 use mathlib.Core.Path.{◌≡◌, refl, sym, ap, ◌∙◌}
 use mathlib.Core.Bool.{Bool, true, false, ◌||◌, cond, true≢false}
 use mathlib.Core.List.{List, [], ◌∷◌, map}
-use mathlib.Core.Option.{none}
+use Rattle.std.specs.Prelude.{None}
 use Prim.Native.Nat.{ℕ, zero, suc, ◌<◌, suc-le-suc}
 use native.Mathlib.Nat.{le_of_suc-le-suc, zero-lt-suc, not-suc-le-zero}
 use native.Mathlib.Omega.{arith}
@@ -176,8 +176,8 @@ oriented-within n edges j i h =
     go false = ((j i inside).from_in, (j i inside).to_in)
 
 -- where the must edges have no lowest node on a loop, the edges as kept or turned have none
-pub oriented-none : (n : ℕ) (edges : List TableEdge) → AllApart n edges → lowest_on_loop n (must_of edges) ≡ none
-    → lowest_on_loop n (oriented_edges n edges) ≡ none
+pub oriented-none : (n : ℕ) (edges : List TableEdge) → AllApart n edges → lowest_on_loop n (must_of edges) ≡ None
+    → lowest_on_loop n (oriented_edges n edges) ≡ None
 oriented-none n edges j e =
     (free-iff n (oriented_edges n edges) (oriented-within n edges j)).0
     (oriented-free n edges j ((free-iff n (must_of edges) (must-within n edges j)).1 e))

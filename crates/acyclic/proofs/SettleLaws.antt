@@ -1,7 +1,7 @@
 -- Relaxation: rows stay at most the cap, and rows at rest keep every edge.
 use mathlib.Core.Path.{◌≡◌, ap}
 use mathlib.Core.List.{List}
-use Prim.Native.Nat.{ℕ, ◌+◌, ◌≤◌, ◌<◌, zero-le}
+use Prim.Native.Nat.{ℕ, ◌+◌, ◌≤◌, ◌<◌}
 use native.Mathlib.Decide.{dec_lt}
 use native.Mathlib.Omega.{arith}
 use lib.ListN.{length, get_or, set, replicate}
@@ -30,7 +30,7 @@ module _ (from to gap weight : List ℕ) (cap : ℕ) (y : List ℕ) (rests : Res
   kept i h = go (dec_lt (at y (at to i)) (at y (at from i) + at gap i))
     where
       go : Dec (at y (at to i) < at y (at from i) + at gap i) → at y (at from i) + at gap i ≤ at y (at to i)
-      go (yes l) = absurd (rests.kept.nowhere i zero-le h (record { short = l }))
+      go (yes l) = absurd (rests.kept i h (record { short = l }))
       go (no l) = omega arith
 
   pub rests-feasible : Feasible (edges_of from to gap weight) (at y)

@@ -1,6 +1,6 @@
 -- Walks along edges of flat slices. Gaps and weights play no part in them.
 use mathlib.Core.Path.{◌≡◌}
-use mathlib.Core.Option.{Option, none, some}
+use Rattle.std.specs.Prelude.{Option, Some, None}
 use mathlib.Core.List.{List}
 use Prim.Native.Nat.{ℕ, ◌<◌}
 use native.Mathlib.Omega.{arith}
@@ -57,10 +57,10 @@ module _ (from to gap weight gap' weight' : List ℕ) where
 -- loops are a matter of the ends alone
 module _ (from to gap weight gap' weight' : List ℕ) where
   pub loop-ends : (n : ℕ) (r : Option ℕ) → LoopIs n (edges_of from to gap weight) r → LoopIs n (edges_of from to gap' weight') r
-  loop-ends n (some s) l =
+  loop-ends n (Some s) l =
       record {
         inside = l.inside;
         closed = walk_ends from to gap weight gap' weight' l.closed;
         lowest = λ k h w. l.lowest k h (walk_ends from to gap' weight' gap weight w);
       }
-  loop-ends n none l = record { free = λ k w. l.free k (walk_ends from to gap' weight' gap weight w) }
+  loop-ends n None l = record { free = λ k w. l.free k (walk_ends from to gap' weight' gap weight w) }

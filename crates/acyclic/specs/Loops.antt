@@ -1,11 +1,8 @@
 -- Loops of edges (document 01, refusal 11): what is meant by walks, and the same as a definition that computes.
-use Rattle.std.specs.Prelude.{◌≡◌, Bool, ◌||◌, cond, List, [], ◌∷◌, ℕ, zero, suc, ◌-◌, ◌*◌, ◌≤◌, ◌<◌, ltb, eqb, length, get_or, set, replicate}
-use Rattle.std.proofs.Math.Option.{Option, none, some}
+use Rattle.std.specs.Prelude.{◌≡◌, Bool, ◌||◌, cond, Option, Some, None, List, [], ◌∷◌, ℕ, zero, suc, ◌-◌, ◌*◌, ◌≤◌, ◌<◌, ltb, eqb, length, get_or, set, replicate}
 use Rattle.graph.specs.declared.Edge.{Edge}
 use Rattle.graph.specs.Rows.{at, no_edge, Kept}
 use Rattle.graph.specs.Search.{widest}
-use Rattle.acyclic.specs.declared.settle.Found.{Found}
-use Rattle.acyclic.specs.declared.settle.Found.TheVariants.{At, Nothing}
 
 -- a walk of one or more edges from s
 pub data Walk (edges : List Edge) (s : ℕ) : ℕ → Type 0 where
@@ -24,13 +21,8 @@ pub record LoopFree (edges : List Edge) : Type 0 where
 
 -- what it means that an answer gives the lowest node on a loop
 abbrev pub LoopIs : ℕ → List Edge → Option ℕ → Type 0
-LoopIs n edges (some s) = Lowest n edges s
-LoopIs n edges none = LoopFree edges
-
--- the node of an answer
-abbrev pub node_of : Found → Option ℕ
-node_of (At s) = some s
-node_of Nothing = none
+LoopIs n edges (Some s) = Lowest n edges s
+LoopIs n edges None = LoopFree edges
 
 -- Marks, one a node, are above 0 where a walk from s was found to lead: an edge from s or from a marked node marks its head.
 unfoldable pub mark : ℕ → List ℕ → Edge → List ℕ
@@ -53,8 +45,8 @@ on_loop n edges s = ltb 0 (at (reached n edges s) s)
 
 -- the first of k numbers from a on that passes a test
 unfoldable pub first_from : (ℕ → Bool) → ℕ → ℕ → Option ℕ
-first_from test a zero = none
-first_from test a (suc k) = let rest = first_from test (suc a) k in cond (test a) (some a) rest
+first_from test a zero = None
+first_from test a (suc k) = let rest = first_from test (suc a) k in cond (test a) (Some a) rest
 
 -- the lowest of n nodes that lies on a loop (document 01: the step that comes with refusal 11)
 unfoldable pub lowest_on_loop : ℕ → List Edge → Option ℕ
@@ -67,6 +59,6 @@ pub record LowRows (n : ℕ) (edges : List Edge) (top : ℕ) : Type 0 where
   pub low : (v : ℕ) → v < n → rows v ≤ top
 
 -- a search for a loop answers the lowest node on one, or that there is none; then rows are at hand that are as low as any need be
-abbrev pub FoundIs : ℕ → List Edge → Found → Type 0
-FoundIs n edges (At s) = Lowest n edges s
-FoundIs n edges Nothing = LoopFree edges × LowRows n edges ((n - 1) * widest edges)
+abbrev pub FoundIs : ℕ → List Edge → Option ℕ → Type 0
+FoundIs n edges (Some s) = Lowest n edges s
+FoundIs n edges None = LoopFree edges × LowRows n edges ((n - 1) * widest edges)

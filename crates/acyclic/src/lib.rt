@@ -2,102 +2,59 @@
 #![tactic(auto)]
 
 pub mod settle;
+mod sweep;
 
-ghost use Rattle.std.specs.Prelude.{◌≡◌, [], ◌≤◌, length};
+ghost use Rattle.std.specs.Prelude.{◌≡◌, ◌↔◌, [], ◌≤◌, ◌<◌, length, IsTrue};
 ghost use Rattle.relaxation.specs.Network.{edges_of};
-ghost use Rattle.acyclic.specs.Ends.{NodeEnds, Gaps};
-ghost use Rattle.acyclic.specs.Loops.{LoopIs, node_of, FoundIs};
-ghost use Rattle.acyclic.specs.Scan.{ScanIs, Open, Blank};
+ghost use Rattle.acyclic.specs.Ends.{Gaps};
+ghost use Rattle.acyclic.specs.Loops.{LoopIs, FoundIs};
+ghost use Rattle.acyclic.specs.Scan.{Open};
 
-use crate::settle::{Found, Settling, settle_rows};
+use crate::settle::settle_rows;
+use crate::sweep::find_from;
+use relaxation::net::Arcs;
 
-// The lowest of n nodes on a loop. Rows that settle show at once that there is none, so edges without a loop cost a few sweeps. The
-// cap only says when to give that up. The rows and the marks are scratch.
-pub fn find_loop(
-    from: &[usize],
-    to: &[usize],
-    gap: &[usize],
-    n: usize,
-    cap: usize,
-    y: &mut [usize],
-    seen: &mut [u8],
-) -> Found
-    requires node_ends { NodeEnds n from.now to.now }
-    requires gaps { Gaps (length from.now) gap.now }
-    requires n_in_bounds { n ≤ length y.old }
-    requires n_in_bounds_2 { n ≤ length seen.old }
-    ensures { FoundIs n (edges_of from.now to.now gap.now []) result }
+// The lowest node on a loop. Rows that settle show at once that there is none, so edges without a loop cost a few sweeps. The cap only
+// says when to give that up. The rows and the marks are scratch.
+pub fn find_loop(arcs: &Arcs<'_>, cap: usize, y: &mut [usize], seen: &mut [bool]) -> Option<usize>
+    requires gaps { Gaps (length arcs.now.from.now) arcs.now.gap.now }
+    requires n_in_bounds { arcs.now.n ≤ length y.old }
+    requires n_in_bounds_2 { arcs.now.n ≤ length seen.old }
+    ensures { FoundIs arcs.now.n (edges_of arcs.now.from.now arcs.now.to.now arcs.now.gap.now []) result }
 {
-    match settle_rows(from, to, gap, cap, y) {
-        Settling::Settled => Found::Nothing,
-        Settling::Unsettled => lowest_on_loop(from, to, n, seen),
+    if settle_rows(arcs, cap, y) {
+        return None;
     }
+    lowest_on_loop(arcs, seen)
 }
 
-// The lowest of n nodes that edges lead back to. Each node in turn marks what it reaches, until it is reached itself or no edge is
-// open. The marks are scratch.
-fn lowest_on_loop(from: &[usize], to: &[usize], n: usize, seen: &mut [u8]) -> Found
-    requires node_ends { NodeEnds n from.now to.now }
-    requires n_in_bounds { n ≤ length seen.old }
-    ensures { LoopIs n (edges_of from.now to.now [] []) (node_of result) }
+// The lowest node that edges lead back to. Each node in turn marks what it reaches, until it is reached itself or no edge is open. The
+// marks are scratch. Document 01 asks for these nested loops, left by a label.
+fn lowest_on_loop(arcs: &Arcs<'_>, seen: &mut [bool]) -> Option<usize>
+    requires { arcs.now.n ≤ length seen.old }
+    ensures { LoopIs arcs.now.n (edges_of arcs.now.from.now arcs.now.to.now [] []) result }
 {
     'found: loop {
-        for s in 0..n {
-            clear_marks(seen);
+        for s in 0..arcs.n {
+            seen.fill(false);
             let mut start = 0;
-            loop {
-                match next_open(from, to, s, seen, start) {
-                    Found::At(i) => {
-                        if to[i] == s {
-                            break 'found Found::At(s);
-                        }
-                        seen[to[i]] = 1;
-                        start = i;
-                    }
-                    Found::Nothing => break,
+            while let Some(i) = find_from(arcs.from.len(), start, |i| is_open(arcs, s, seen, i)) {
+                if arcs.to[i] == s {
+                    break 'found Some(s);
                 }
+                seen[arcs.to[i]] = true;
+                start = i;
             }
         }
-        break 'found Found::Nothing;
+        break 'found None;
     }
 }
 
-// An open edge, sought from start on and then among those before it: a sweep goes on where it stands.
-fn next_open(from: &[usize], to: &[usize], s: usize, seen: &[u8], start: usize) -> Found
-    requires node_ends { NodeEnds (length seen.now) from.now to.now }
-    requires start_in_bounds { start ≤ length from.now }
-    ensures { ScanIs (Open from.now to.now s seen.now) 0 (length from.now) result }
+// Whether edge i is open: it would mark its head.
+fn is_open(arcs: &Arcs<'_>, s: usize, seen: &[bool], i: usize) -> bool
+    requires i_in_bounds { i < length arcs.now.from.now }
+    requires n_in_bounds { arcs.now.n ≤ length seen.now }
+    ensures { IsTrue result ↔ Open arcs.now.from.now arcs.now.to.now s seen.now i }
 {
-    match open_between(from, to, s, seen, start, from.len()) {
-        Found::At(i) => Found::At(i),
-        Found::Nothing => open_between(from, to, s, seen, 0, start),
-    }
-}
-
-// An open edge of those from lo to below hi: it would mark its head.
-fn open_between(from: &[usize], to: &[usize], s: usize, seen: &[u8], lo: usize, hi: usize) -> Found
-    requires node_ends { NodeEnds (length seen.now) from.now to.now }
-    requires hi_in_bounds { hi ≤ length from.now }
-    ensures { ScanIs (Open from.now to.now s seen.now) lo hi result }
-{
-    for i in lo..hi {
-        if seen[to[i]] == 0 {
-            if from[i] == s {
-                return Found::At(i);
-            }
-            if 0 < seen[from[i]] {
-                return Found::At(i);
-            }
-        }
-    }
-    Found::Nothing
-}
-
-// Every mark set to 0.
-fn clear_marks(seen: &mut [u8])
-    ensures { Blank seen.new }
-{
-    for v in 0..seen.len() {
-        seen[v] = 0;
-    }
+    !seen[arcs.to[i]] && (arcs.from[i] == s || seen[arcs.from[i]])
 }

@@ -1,89 +1,35 @@
 // Relaxation: rows from 0 up that keep every edge, if they settle below a cap.
-ghost use Rattle.std.specs.Prelude.{◌≡◌, ◌≤◌, length};
-ghost use Rattle.acyclic.specs.Ends.{NodeEnds};
-ghost use Rattle.acyclic.specs.Scan.{ScanIs, Short, SettlingIs};
+ghost use Rattle.std.specs.Prelude.{◌≡◌, ◌↔◌, true, ◌≤◌, ◌<◌, length, IsTrue};
+ghost use Rattle.acyclic.specs.Scan.{Short, Rests};
 
-use buffers::clear_all;
+use crate::sweep::find_from;
+use relaxation::net::Arcs;
 
-// The number of a node or of an edge, where there is one.
-#[derive(Drop)]
-pub enum Found {
-    At(usize),
-    Nothing,
-}
-
-// Whether relaxation came to rest below its cap.
-#[derive(Drop)]
-pub enum Settling {
-    Settled,
-    Unsettled,
-}
-
-// Rows from 0 up, raised wherever an edge is short, until none is or a row would pass the cap.
-pub fn settle_rows(
-    from: &[usize],
-    to: &[usize],
-    gap: &[usize],
-    cap: usize,
-    y: &mut [usize],
-) -> Settling
-    requires node_ends { NodeEnds (length y.old) from.now to.now }
-    requires gap_len { length gap.now ≡ length from.now }
-    ensures { SettlingIs from.now to.now gap.now cap y.new result }
+// Rows from 0 up, raised wherever an edge is short, until none is or a row would pass the cap. Whether they came to rest.
+pub fn settle_rows(arcs: &Arcs<'_>, cap: usize, y: &mut [usize]) -> bool
+    requires { arcs.now.n ≤ length y.old }
+    ensures { result ≡ true → Rests arcs.now.from.now arcs.now.to.now arcs.now.gap.now cap y.new }
 {
-    clear_all(y);
+    y.fill(0);
     let mut start = 0;
-    loop {
-        match next_short(from, to, gap, y, start) {
-            Found::At(i) => {
-                let tail = y[from[i]];
-                if cap - tail < gap[i] {
-                    return Settling::Unsettled;
-                }
-                y[to[i]] = tail + gap[i];
-                start = i;
-            }
-            Found::Nothing => return Settling::Settled,
+    while let Some(i) = find_from(arcs.from.len(), start, |i| is_short(arcs, y, i)) {
+        let tail = y[arcs.from[i]];
+        if cap - tail < arcs.gap[i] {
+            return false;
         }
+        y[arcs.to[i]] = tail + arcs.gap[i];
+        start = i;
     }
+    true
 }
 
-// A short edge, sought from start on and then among those before it.
-fn next_short(from: &[usize], to: &[usize], gap: &[usize], y: &[usize], start: usize) -> Found
-    requires node_ends { NodeEnds (length y.now) from.now to.now }
-    requires gap_len { length gap.now ≡ length from.now }
-    requires start_in_bounds { start ≤ length from.now }
-    ensures { ScanIs (Short from.now to.now gap.now y.now) 0 (length from.now) result }
+// Whether edge i is shorter than its gap.
+fn is_short(arcs: &Arcs<'_>, y: &[usize], i: usize) -> bool
+    requires i_in_bounds { i < length arcs.now.from.now }
+    requires n_in_bounds { arcs.now.n ≤ length y.now }
+    ensures { IsTrue result ↔ Short arcs.now.from.now arcs.now.to.now arcs.now.gap.now y.now i }
 {
-    match short_between(from, to, gap, y, start, from.len()) {
-        Found::At(i) => Found::At(i),
-        Found::Nothing => short_between(from, to, gap, y, 0, start),
-    }
-}
-
-// A short edge of those from lo to below hi.
-fn short_between(
-    from: &[usize],
-    to: &[usize],
-    gap: &[usize],
-    y: &[usize],
-    lo: usize,
-    hi: usize,
-) -> Found
-    requires node_ends { NodeEnds (length y.now) from.now to.now }
-    requires gap_len { length gap.now ≡ length from.now }
-    requires hi_in_bounds { hi ≤ length from.now }
-    ensures { ScanIs (Short from.now to.now gap.now y.now) lo hi result }
-{
-    for i in lo..hi {
-        let tail = y[from[i]];
-        let head = y[to[i]];
-        if head < tail {
-            return Found::At(i);
-        }
-        if head - tail < gap[i] {
-            return Found::At(i);
-        }
-    }
-    Found::Nothing
+    let tail = y[arcs.from[i]];
+    let head = y[arcs.to[i]];
+    head < tail || head - tail < arcs.gap[i]
 }

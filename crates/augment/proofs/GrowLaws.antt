@@ -224,6 +224,3 @@ module _ (from to gap flow weight supply demand : List ℕ) (n s amount : ℕ) (
 
         pub growing-count : count + 1 ≤ node_limit + 3
         growing-count = omega (arith, more.fewer, g.few, g.lengths.rank_long, narrow.few)
-
-        pub growing-same : (length rank' ≡ length rank) × (length parent' ≡ length parent) × (length capacity' ≡ length capacity)
-        growing-same = (more.rank_same, more.parent_same, more.capacity_same)

@@ -1,32 +1,31 @@
 -- Pushing along the parent edges of the tree.
 use mathlib.Core.Path.{◌≡◌, refl, sym, ap, ◌∙◌, subst}
-use mathlib.Core.List.{List, ◌++◌}
+use mathlib.Core.List.{List}
 use Prim.Native.Nat.{ℕ, ◌+◌, ◌-◌, ◌≤◌, ◌<◌}
 use native.Mathlib.Nat.{le_refl}
 use native.Mathlib.Omega.{arith}
-use lib.ListN.{length, get_or, set, drop, replicate, length-set, get_or-replicate, length-replicate, length-append, length-drop, get_or-append}
+use lib.ListN.{length, set, replicate, length-set, get_or-replicate, length-replicate}
 use lib.Seq.{get_or-set_same, get_or-set_other}
 use Rattle.graph.specs.Rows.{at}
 use Rattle.relaxation.specs.Certificate.{Held}
 use Rattle.buffers.specs.Written.{word_limit}
 use Rattle.relaxation.specs.Network.{Shaped}
-use Rattle.transport.specs.Flow.{Owed}
 use Rattle.augment.specs.Push.{OnWay, Steps, Pushable, Pushed}
 use Rattle.augment.specs.Search.{Link, Planted}
 use Rattle.buffers.proofs.ListLaws.{set_cases}
 use Rattle.transport.proofs.SumLaws.{flux-add, flux-sub}
 
-module _ (from to f g supply demand : List ℕ) (d start : ℕ) where
-  pub way-begins : Owed from to f g supply demand → OnWay from to f g supply demand d start start
-  way-begins b = record { test = λ z. omega (arith, b.test z) }
+module _ (from to old : List ℕ) (d start : ℕ) where
+  pub way-begins : OnWay from to old old d start start
+  way-begins = record { test = λ z. omega arith }
 
-  pub way-add : (i : ℕ) → i < length f → OnWay from to f g supply demand d start (at to i)
-      → OnWay from to (set f i (at f i + d)) g supply demand d start (at from i)
-  way-add i h w = record { test = λ z. omega (arith, w.test z, flux-add f to z i d h, flux-add f from z i d h) }
+  pub way-add : (f : List ℕ) (i : ℕ) → i < length f → OnWay from to old f d start (at to i)
+      → OnWay from to old (set f i (at f i + d)) d start (at from i)
+  way-add f i h w = record { test = λ z. omega (arith, w.test z, flux-add f to z i d h, flux-add f from z i d h) }
 
-  pub way-sub : (i : ℕ) → i < length f → d ≤ at f i → OnWay from to f g supply demand d start (at from i)
-      → OnWay from to (set f i (at f i - d)) g supply demand d start (at to i)
-  way-sub i h l w = record { test = λ z. omega (arith, w.test z, flux-sub f to z i d h l, flux-sub f from z i d h l) }
+  pub way-sub : (f : List ℕ) (i : ℕ) → i < length f → d ≤ at f i → OnWay from to old f d start (at from i)
+      → OnWay from to old (set f i (at f i - d)) d start (at to i)
+  way-sub f i h l w = record { test = λ z. omega (arith, w.test z, flux-sub f to z i d h l, flux-sub f from z i d h l) }
 
 -- An edge is the parent edge of one node only: it leads to its head or to its tail, and of its two ends one was marked before the other.
 pub parent-inj : (from to gap flow y rank parent capacity : List ℕ) (u v : ℕ) → Link from to gap flow y rank parent capacity u
@@ -43,31 +42,31 @@ parent-inj from to gap flow y rank parent capacity u v (Link.bwd i p a1 a2 a3 a4
     absurd (omega (arith, ap (at rank) pv, ap (at rank) qu))
 
 -- d is pushed from start back as far as cur, from a flow that was old; parent edges further back are as they were
-pub record Way (from to gap g supply demand : List ℕ) (n : ℕ) (y rank parent capacity : List ℕ) (d start : ℕ) (old flow : List ℕ) (cur : ℕ) : Type 0 where
+pub record Way (from to gap : List ℕ) (n : ℕ) (y rank parent capacity : List ℕ) (d start : ℕ) (old flow : List ℕ) (cur : ℕ) : Type 0 where
   pub inside : cur < n
   pub marked : 0 < at rank cur
   pub long : length flow ≡ length old
-  pub way : OnWay from to flow g supply demand d start cur
+  pub way : OnWay from to old flow d start cur
   pub same : (v : ℕ) → v < n → 1 < at rank v → at rank v ≤ at rank cur → at flow (at parent v) ≡ at old (at parent v)
   pub grows : (i : ℕ) → at flow i ≤ at old i + d
   pub held : Held from to gap flow (at y)
   pub capped : d ≤ at capacity cur
 
-module _ (from to gap old g supply demand : List ℕ) (n : ℕ) (y rank parent capacity : List ℕ) (s start d : ℕ) (shape : Shaped from to gap n)
-    (asks : Pushable from to gap old g supply demand n y rank parent capacity s start d) where
-  pub way-start : Way from to gap g supply demand n y rank parent capacity d start old old start
+module _ (from to gap old : List ℕ) (n : ℕ) (y rank parent capacity : List ℕ) (s start d : ℕ) (shape : Shaped from to gap n)
+    (asks : Pushable from to gap old n y rank parent capacity s start d) where
+  pub way-start : Way from to gap n y rank parent capacity d start old old start
   way-start = record {
     inside = asks.inside;
     marked = asks.marked;
     long = refl;
-    way = way-begins from to old g supply demand d start asks.owed;
+    way = way-begins from to old d start;
     same = λ v h m l. refl;
     grows = λ i. omega arith;
     held = asks.held;
     capped = asks.capped;
   }
 
-  module _ (flow : List ℕ) (cur : ℕ) (w : Way from to gap g supply demand n y rank parent capacity d start old flow cur) where
+  module _ (flow : List ℕ) (cur : ℕ) (w : Way from to gap n y rank parent capacity d start old flow cur) where
     module _ (more : 1 < at rank cur) where
       linked : Link from to gap old y rank parent capacity cur
       linked = asks.tree.link cur w.inside more
@@ -102,11 +101,11 @@ module _ (from to gap old g supply demand : List ℕ) (n : ℕ) (y rank parent c
       -- A step over a tight edge adds d to its flow; one back over a used edge takes d off, which its capacity allows. Parent edges differ, so
       -- no edge is stepped over twice.
       pub way_step : (flow' : List ℕ) (r : ℕ) → Steps from to flow parent cur d flow' r
-          → Way from to gap g supply demand n y rank parent capacity d start old flow' r × (at rank r < at rank cur)
+          → Way from to gap n y rank parent capacity d start old flow' r × (at rank r < at rank cur)
       way_step flow' r st = go linked st
         where
           go : Link from to gap old y rank parent capacity cur → Steps from to flow parent cur d flow' r
-              → Way from to gap g supply demand n y rank parent capacity d start old flow' r × (at rank r < at rank cur)
+              → Way from to gap n y rank parent capacity d start old flow' r × (at rank r < at rank cur)
           go (Link.fwd i p e1 e2 e3 e4 e5 e6 e7 e8) (Steps.bwd ne ef er) = absurd (ne (ap (at to) e1 ∙ e3))
           go (Link.bwd i p e1 e2 e3 e4 e5 e6 e7 e8) (Steps.fwd e ef er) =
               let q : p ≡ cur = cc in
@@ -115,9 +114,9 @@ module _ (from to gap old g supply demand : List ℕ) (n : ℕ) (y rank parent c
               let rp : r ≡ p = cc in
               let lt : at rank r < at rank cur = omega (arith, ap (at rank) rp) in
               let k = at parent cur in
-              let w' : OnWay from to (set flow k (at flow k + d)) g supply demand d start
-              (at from k) = way-add from to flow g supply demand d start k flow-in (subst (λ
-              (c : ℕ). OnWay from to flow g supply demand d start c) (sym e) w.way) in (
+              let w' : OnWay from to old (set flow k (at flow k + d)) d start
+              (at from k) = way-add from to old d start flow k flow-in (subst (λ
+              (c : ℕ). OnWay from to old flow d start c) (sym e) w.way) in (
                 rw ef (record {
                   inside = omega (arith, shape.from_in k edge_in);
                   marked = omega (arith, ap (at rank) rp);
@@ -142,9 +141,9 @@ module _ (from to gap old g supply demand : List ℕ) (n : ℕ) (y rank parent c
               let lt : at rank r < at rank cur = omega (arith, ap (at rank) rp) in
               let k = at parent cur in
               let fk : at from k ≡ cur = cc in
-              let w' : OnWay from to (set flow k (at flow k - d)) g supply demand d start
-              (at to k) = way-sub from to flow g supply demand d start k flow-in (step-covers ne) (subst (λ
-              (c : ℕ). OnWay from to flow g supply demand d start c) (sym fk) w.way) in (
+              let w' : OnWay from to old (set flow k (at flow k - d)) d start
+              (at to k) = way-sub from to old d start flow k flow-in (step-covers ne) (subst (λ
+              (c : ℕ). OnWay from to old flow d start c) (sym fk) w.way) in (
                 rw ef (record {
                   inside = omega (arith, shape.to_in k edge_in);
                   marked = omega (arith, ap (at rank) rp);
@@ -164,29 +163,20 @@ module _ (from to gap old g supply demand : List ℕ) (n : ℕ) (y rank parent c
               )
 
     -- Ranks fall along the way, so it ends at the node of rank 1, which is s.
-    pub way-ends : at rank cur ≤ 1 → Pushed from to gap g supply demand y d start s old flow
+    pub way-ends : at rank cur ≤ 1 → Pushed from to gap y d start s old flow
     way-ends le =
         let e : cur ≡ s = asks.tree.only cur w.inside (omega (arith, w.marked)) in
-        record { long = w.long; way = subst (λ (c : ℕ). OnWay from to flow g supply demand d start c) e w.way; grows = w.grows; held = w.held }
+        record { long = w.long; way = subst (λ (c : ℕ). OnWay from to old flow d start c) e w.way; grows = w.grows; held = w.held }
 
-pub planted : (n s amount : ℕ) (rank capacity : List ℕ) → length rank ≡ n → length capacity ≡ n → s < n
-    → Planted n s amount (set (replicate n 0 ++ drop n rank) s 1) (set capacity s amount)
-planted n s amount rank capacity h k l = record {
-  root = get_or-set_same (replicate n 0 ++ drop n rank) s 1 0 (omega (arith, whole));
-  others = λ v b ne. get_or-set_other (replicate n 0 ++ drop n rank) s v 1 0 ne ∙ zero-at v b;
+pub planted : (n s amount : ℕ) (capacity : List ℕ) → length capacity ≡ n → s < n
+    → Planted n s amount (set (replicate n 0) s 1) (set capacity s amount)
+planted n s amount capacity k l = record {
+  root = get_or-set_same (replicate n 0) s 1 0 (omega (arith, whole));
+  others = λ v b ne. get_or-set_other (replicate n 0) s v 1 0 ne ∙ get_or-replicate {A = ℕ} n v 0 0 b;
   whole = get_or-set_same capacity s amount 0 (omega arith);
-  rank_long = length-set (replicate n 0 ++ drop n rank) s 1 ∙ whole;
+  rank_long = length-set (replicate n 0) s 1 ∙ whole;
   capacity_long = length-set capacity s amount ∙ k;
 }
   where
-    whole : length (replicate n 0 ++ drop n rank) ≡ n
-    whole = simp-length ∙ omega-drop
-      where
-        omega-drop : n + length (drop n rank) ≡ n
-        omega-drop = omega (arith, length-drop n rank)
-
-        simp-length : length (replicate n 0 ++ drop n rank) ≡ n + length (drop n rank)
-        simp-length = length-append (replicate n 0) (drop n rank) ∙ ap (λ (x : ℕ). x + length (drop n rank)) (length-replicate {A = ℕ} n 0)
-
-    zero-at : (i : ℕ) → i < n → get_or (replicate n 0 ++ drop n rank) i 0 ≡ 0
-    zero-at i h = get_or-append (replicate n 0) (drop n rank) 0 i (omega (arith, length-replicate {A = ℕ} n 0)) ∙ get_or-replicate {A = ℕ} n i 0 0 h
+    whole : length {A = ℕ} (replicate n 0) ≡ n
+    whole = length-replicate {A = ℕ} n 0

@@ -4,14 +4,10 @@ use Rattle.graph.specs.Rows.{at}
 use Rattle.buffers.specs.Written.{word_limit}
 use Rattle.relaxation.specs.Certificate.{flux, Held}
 use Rattle.augment.specs.Search.{Tree}
-use Rattle.transport.specs.Flow.{spread, Owed}
 
--- and but for d on its way from start to cur
-pub record OnWay (from to f g supply demand : List ℕ) (d start cur : ℕ) : Type 0 where
-  pub test :
-      (z : ℕ → ℕ)
-      → flux f to z + flux g from z + spread demand z + d * z cur
-      ≡ flux f from z + flux g to z + spread supply z + d * z start
+-- f carries what old carries, and d more on its way from cur to start
+pub record OnWay (from to old f : List ℕ) (d start cur : ℕ) : Type 0 where
+  pub test : (z : ℕ → ℕ) → flux f to z + flux old from z + d * z cur ≡ flux f from z + flux old to z + d * z start
 
 -- a step of d over the parent edge of cur, back to r
 pub data Steps (from to flow parent : List ℕ) (cur d : ℕ) (flow' : List ℕ) (r : ℕ) : Type 0 where
@@ -21,7 +17,7 @@ pub data Steps (from to flow parent : List ℕ) (cur d : ℕ) (flow' : List ℕ)
       → Steps from to flow parent cur d flow' r
 
 -- what a push of d from start back to s asks for
-pub record Pushable (from to gap flow g supply demand : List ℕ) (n : ℕ) (y rank parent capacity : List ℕ) (s start d : ℕ) : Type 0 where
+pub record Pushable (from to gap flow : List ℕ) (n : ℕ) (y rank parent capacity : List ℕ) (s start d : ℕ) : Type 0 where
   pub amount : ℕ
   pub count : ℕ
   pub tree : Tree from to gap flow n s amount y rank parent capacity count
@@ -32,12 +28,11 @@ pub record Pushable (from to gap flow g supply demand : List ℕ) (n : ℕ) (y r
   pub marked : 0 < at rank start
   pub capped : d ≤ at capacity start
   pub held : Held from to gap flow (at y)
-  pub owed : Owed from to flow g supply demand
   pub fits : (i : ℕ) → at flow i + d < word_limit
 
 -- and what it gives
-pub record Pushed (from to gap g supply demand y : List ℕ) (d start s : ℕ) (old flow : List ℕ) : Type 0 where
+pub record Pushed (from to gap y : List ℕ) (d start s : ℕ) (old flow : List ℕ) : Type 0 where
   pub long : length flow ≡ length old
-  pub way : OnWay from to flow g supply demand d start s
+  pub way : OnWay from to old flow d start s
   pub grows : (i : ℕ) → at flow i ≤ at old i + d
   pub held : Held from to gap flow (at y)

@@ -1,6 +1,6 @@
 -- The search tree from a node s that has something to send: which nodes are marked, and how far the rows may rise.
 -- A node's rank is 0 where it is not marked; s has rank 1; its parent edge led to any other; its capacity is how much can come to it.
-use Rattle.std.specs.Prelude.{◌≡◌, List, ℕ, ◌+◌, ◌*◌, ◌-◌, ◌≤◌, ◌<◌, min, length, set, drop}
+use Rattle.std.specs.Prelude.{◌≡◌, Option, Some, None, List, ℕ, ◌+◌, ◌*◌, ◌≤◌, ◌<◌, min, length, set, drop}
 use Rattle.graph.specs.Rows.{at}
 use Rattle.buffers.specs.Written.{word_limit}
 use Rattle.relaxation.specs.Limits.{gap_limit, no_slack}
@@ -40,9 +40,10 @@ pub record LeastIs (from to gap flow y rank : List ℕ) (a r : ℕ) : Type 0 whe
   pub slack : (i : ℕ) → i < length from → SlackAt from to gap flow y rank r i
   pub kind : r < no_slack → (a < length from) × LeavesAt from to gap flow y rank a r
 
--- a link k above 0 is one more than an edge that leaves the marked set with no slack, which is the least
-pub record OpenIs (from to gap flow y rank : List ℕ) (k : ℕ) : Type 0 where
-  pub open_edge : 0 < k → LeastIs from to gap flow y rank (k - 1) 0
+-- an edge that is found leaves the marked set with no slack, which is the least
+abbrev pub OpenIs : List ℕ → List ℕ → List ℕ → List ℕ → List ℕ → List ℕ → Option ℕ → Type 0
+OpenIs from to gap flow y rank None = Unit {0}
+OpenIs from to gap flow y rank (Some a) = LeastIs from to gap flow y rank a 0
 
 -- how v was marked: over edge i from p, which was marked before
 pub data Link (from to gap flow y rank parent capacity : List ℕ) (v : ℕ) : Type 0 where

@@ -2,12 +2,14 @@
 ghost use Rattle.std.specs.Prelude.{◌≡◌, ◌+◌, ◌≤◌, ◌<◌, length};
 ghost use Rattle.graph.specs.Rows.{at};
 ghost use Rattle.relaxation.specs.Certificate.{Held};
-ghost use Rattle.relaxation.specs.Network.{Shaped};
 ghost use Rattle.augment.specs.Search.{SlackIs, SlackIsAt, LeastIs};
 
-use crate::open::{Cursor, HEADS, TAILS, propose_edge};
+use crate::open::Cursor;
+use crate::residual::Residual;
+use relaxation::net::{Arcs, Side};
+use relaxation::scratch::{Hints, Tree};
 
-// The slack that stands for no arc at all.
+// The slack that stands for no edge at all: a number, so that one comparison tells which of two slacks is the least.
 const NO_SLACK: usize = 18446744073709551615;
 
 // The slack of an edge where it leaves the marked set.
@@ -30,161 +32,111 @@ fn slack_of(rf: usize, rt: usize, lo: usize, g: usize, hi: usize, f: usize) -> u
     0
 }
 
-// The slack of edge i.
-fn slack_at(
-    from: &[usize],
-    to: &[usize],
-    gap: &[usize],
-    flow: &[usize],
-    n: usize,
-    y: &[usize],
-    rank: &[usize],
-    i: usize,
-) -> usize
-    requires shaped { Shaped from.now to.now gap.now n }
-    requires n_in_bounds { n ≤ length y.now }
-    requires n_in_bounds_2 { n ≤ length rank.now }
-    requires flow_len { length flow.now ≡ length from.now }
-    requires held { Held from.now to.now gap.now flow.now (at y.now) }
-    requires i_in_bounds { i < length from.now }
-    ensures { SlackIsAt from.now to.now gap.now flow.now y.now rank.now i result }
-{
-    let f = from[i];
-    let t = to[i];
-    slack_of(rank[f], rank[t], y[f], gap[i], y[t], flow[i])
-}
-
 // An edge that leaves the marked set, and its slack.
-#[derive(Drop)]
+#[derive(Clone, Copy, Debug, Default, PartialEq, Eq)]
 pub struct Exit {
-    edge: usize,
-    slack: usize,
-}
-
-// The least slack of the edges that leave the marked set, and an edge that has it.
-fn least_slack(
-    from: &[usize],
-    to: &[usize],
-    gap: &[usize],
-    flow: &[usize],
-    n: usize,
-    y: &[usize],
-    rank: &[usize],
-) -> Exit
-    requires shaped { Shaped from.now to.now gap.now n }
-    requires n_in_bounds { n ≤ length y.now }
-    requires n_in_bounds_2 { n ≤ length rank.now }
-    requires flow_len { length flow.now ≡ length from.now }
-    requires held { Held from.now to.now gap.now flow.now (at y.now) }
-    ensures { LeastIs from.now to.now gap.now flow.now y.now rank.now result.edge result.slack }
-{
-    let mut best = NO_SLACK;
-    let mut edge = 0;
-    let mut i = 0;
-    while i < from.len() {
-        let r = slack_at(from, to, gap, flow, n, y, rank, i);
-        if r == 0 {
-            return Exit { edge: i, slack: 0 };
-        }
-        if r < best {
-            best = r;
-            edge = i;
-        }
-        i += 1;
-    }
-    Exit {
-        edge: edge,
-        slack: best,
-    }
-}
-
-// How far the lists are read, and an edge that leaves the marked set with its slack.
-#[derive(Drop)]
-pub struct Search {
     pub edge: usize,
     pub slack: usize,
+}
+
+// The exit that was found, and how far the lists are read.
+#[derive(Clone, Copy, Debug, Default, PartialEq, Eq)]
+pub struct Search {
+    pub exit: Exit,
     outs: Cursor,
     ins: Cursor,
 }
 
-// Nothing is read yet.
-pub fn start_search() -> Search {
-    let start = Cursor { place: 0, link: 0 };
-    Search {
-        edge: 0,
-        slack: 0,
-        outs: start,
-        ins: start,
+impl Residual<'_, '_> {
+    // The slack of edge i.
+    fn slack_at(&self, i: usize) -> usize
+        requires { i < length self.now.arcs.from.now }
+        ensures { SlackIsAt self.now.arcs.from.now self.now.arcs.to.now self.now.arcs.gap.now self.now.flow.now self.now.y.now self.now.rank.now i result }
+    {
+        let f = self.arcs.from[i];
+        let t = self.arcs.to[i];
+        slack_of(
+            self.rank[f],
+            self.rank[t],
+            self.y[f],
+            self.arcs.gap[i],
+            self.y[t],
+            self.flow[i],
+        )
+    }
+
+    // The least slack of the edges that leave the marked set, and an edge that has it. By number, which is part of the answer.
+    fn least_slack(&self) -> Exit
+        ensures { LeastIs self.now.arcs.from.now self.now.arcs.to.now self.now.arcs.gap.now self.now.flow.now self.now.y.now self.now.rank.now result.edge result.slack }
+    {
+        let mut best = NO_SLACK;
+        let mut edge = 0;
+        for i in 0..self.arcs.from.len() {
+            let r = self.slack_at(i);
+            if r == 0 {
+                return Exit { edge: i, slack: 0 };
+            }
+            if r < best {
+                best = r;
+                edge = i;
+            }
+        }
+        Exit { edge, slack: best }
     }
 }
 
 // An edge that leaves the marked set with the least slack: one of a list, edges out of marked nodes first, or else what a look at all
-// edges gives.
-pub fn next_exit(
-    from: &[usize],
-    to: &[usize],
-    gap: &[usize],
-    flow: &[usize],
-    n: usize,
-    y: &[usize],
-    rank: &[usize],
-    out_head: &[usize],
-    out_next: &[usize],
-    in_head: &[usize],
-    in_next: &[usize],
-    queue: &[usize],
+// edges gives. Rows and flow are parameters of their own, since of a slice in a struct the caller no longer knows what it holds.
+pub fn next_exit<'s>(
+    arcs: &Arcs<'_>,
+    flow: &'s [usize],
+    y: &'s [usize],
+    tree: &'s Tree<'_>,
+    hints: &Hints<'_>,
     marked: usize,
     search: Search,
 ) -> Search
-    requires shaped { Shaped from.now to.now gap.now n }
-    requires n_in_bounds { n ≤ length y.now }
-    requires n_in_bounds_2 { n ≤ length rank.now }
-    requires flow_len { length flow.now ≡ length from.now }
-    requires held { Held from.now to.now gap.now flow.now (at y.now) }
-    ensures { LeastIs from.now to.now gap.now flow.now y.now rank.now result.edge result.slack }
+    requires n_in_bounds { arcs.now.n ≤ length y.now }
+    requires n_in_bounds_2 { arcs.now.n ≤ length tree.now.rank.now }
+    requires flow_len { length flow.now ≡ length arcs.now.from.now }
+    requires held { Held arcs.now.from.now arcs.now.to.now arcs.now.gap.now flow.now (at y.now) }
+    ensures { LeastIs arcs.now.from.now arcs.now.to.now arcs.now.gap.now flow.now y.now tree.now.rank.now result.exit.edge result.exit.slack }
 {
-    let ins = search.ins;
-    let outs = propose_edge(
-        from,
-        to,
-        gap,
+    let residual = Residual {
+        arcs: *arcs,
         flow,
-        n,
         y,
-        rank,
-        out_head,
-        out_next,
-        queue,
+        rank: tree.rank,
+    };
+    let (ahead, outs) = residual.propose_edge(
+        &hints.outs,
+        Side::Heads,
+        hints.queue,
         marked,
         search.outs,
-        HEADS,
     );
-    let k = outs.link;
-    if k > 0 {
+    if let Some(edge) = ahead {
+        let exit = Exit { edge, slack: 0 };
         return Search {
-            edge: k - 1,
-            slack: 0,
-            outs: outs,
-            ins: ins,
+            exit,
+            outs,
+            ins: search.ins,
         };
     }
-    let back = propose_edge(
-        from, to, gap, flow, n, y, rank, in_head, in_next, queue, marked, ins, TAILS,
+    let (back, ins) = residual.propose_edge(
+        &hints.ins,
+        Side::Tails,
+        hints.queue,
+        marked,
+        search.ins,
     );
-    let j = back.link;
-    if j > 0 {
-        return Search {
-            edge: j - 1,
-            slack: 0,
-            outs: outs,
-            ins: back,
-        };
+    if let Some(edge) = back {
+        let exit = Exit { edge, slack: 0 };
+        return Search { exit, outs, ins };
     }
-    let x = least_slack(from, to, gap, flow, n, y, rank);
     Search {
-        edge: x.edge,
-        slack: x.slack,
-        outs: outs,
-        ins: back,
+        exit: residual.least_slack(),
+        outs,
+        ins,
     }
 }

@@ -4,4 +4,5 @@
 mod exit;
 mod open;
 pub mod push;
+mod residual;
 pub mod tree;

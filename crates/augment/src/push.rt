@@ -2,59 +2,51 @@
 ghost use Rattle.std.specs.Prelude.{◌≡◌, ◌+◌, ◌≤◌, ◌<◌, length};
 ghost use Rattle.graph.specs.Rows.{at};
 ghost use Rattle.buffers.specs.Written.{word_limit};
-ghost use Rattle.relaxation.specs.Network.{Shaped};
 ghost use Rattle.augment.specs.Push.{Steps, Pushable, Pushed};
+
+use relaxation::net::Arcs;
+use relaxation::scratch::Tree;
 
 // A step of d over the parent edge of cur.
 pub fn step_back(
-    from: &[usize],
-    to: &[usize],
+    arcs: &Arcs<'_>,
     flow: &mut [usize],
     parent: &[usize],
     cur: usize,
     d: usize,
 ) -> usize
     requires cur_in_bounds { cur < length parent.now }
-    requires cur_in_bounds_2 { at parent.now cur < length from.now }
-    requires to_len { length to.now ≡ length from.now }
-    requires flow_len { length flow.old ≡ length from.now }
+    requires cur_in_bounds_2 { at parent.now cur < length arcs.now.from.now }
+    requires flow_len { length flow.old ≡ length arcs.now.from.now }
     requires d_bound { at flow.old (at parent.now cur) + d < word_limit }
-    requires d_bound_2 { (at to.now (at parent.now cur) ≡ cur → ⊥) → d ≤ at flow.old (at parent.now cur) }
-    ensures { Steps from.now to.now flow.old parent.now cur d flow.new result }
+    requires d_bound_2 { (at arcs.now.to.now (at parent.now cur) ≡ cur → ⊥) → d ≤ at flow.old (at parent.now cur) }
+    ensures { Steps arcs.now.from.now arcs.now.to.now flow.old parent.now cur d flow.new result }
 {
     let i = parent[cur];
-    if to[i] == cur {
+    if arcs.to[i] == cur {
         flow[i] += d;
-        return from[i];
+        return arcs.from[i];
     }
     flow[i] -= d;
-    to[i]
+    arcs.to[i]
 }
 
 // d pushed over the parent edges, from start back to s.
+// Rows and flow are parameters of their own, since of a slice in a struct the caller no longer knows what it holds.
 pub fn push_flow(
-    from: &[usize],
-    to: &[usize],
-    gap: &[usize],
-    flow: &mut [usize],
-    g: &[usize],
-    supply: &[usize],
-    demand: &[usize],
-    n: usize,
+    arcs: &Arcs<'_>,
     y: &[usize],
-    rank: &[usize],
-    parent: &[usize],
-    capacity: &[usize],
+    flow: &mut [usize],
+    tree: &Tree<'_>,
     s: usize,
     start: usize,
     d: usize,
 )
-    requires shaped { Shaped from.now to.now gap.now n }
-    requires pushable { Pushable from.now to.now gap.now flow.old g.now supply.now demand.now n y.now rank.now parent.now capacity.now s start d }
-    ensures { Pushed from.now to.now gap.now g.now supply.now demand.now y.now d start s flow.old flow.new }
+    requires { Pushable arcs.now.from.now arcs.now.to.now arcs.now.gap.now flow.old arcs.now.n y.now tree.now.rank.now tree.now.parent.now tree.now.capacity.now s start d }
+    ensures { Pushed arcs.now.from.now arcs.now.to.now arcs.now.gap.now y.now d start s flow.old flow.new }
 {
     let mut cur = start;
-    while rank[cur] > 1 {
-        cur = step_back(from, to, flow, parent, cur, d);
+    while tree.rank[cur] > 1 {
+        cur = step_back(arcs, flow, tree.parent, cur, d);
     }
 }

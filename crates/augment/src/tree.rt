@@ -1,125 +1,107 @@
 // The search tree: marked nodes, from one that has something to send, over residual arcs. Where none leaves, the marked rows rise.
-ghost use Rattle.std.specs.Prelude.{◌≡◌, ℕ, ◌+◌, ◌≤◌, ◌<◌, length};
+ghost use Rattle.std.specs.Prelude.{◌≡◌, List, ℕ, ◌+◌, ◌≤◌, ◌<◌, length};
 ghost use Rattle.graph.specs.Rows.{at};
 ghost use Rattle.transport.specs.Flow.{Flows};
 ghost use Rattle.relaxation.specs.Low.{RowsLow};
 ghost use Rattle.buffers.specs.Written.{word_limit};
 ghost use Rattle.relaxation.specs.Limits.{calm_limit, peak_limit};
-ghost use Rattle.relaxation.specs.Network.{Shaped, Narrow, Lengths};
+ghost use Rattle.relaxation.specs.Network.{Narrow, Lengths};
 ghost use Rattle.augment.specs.Search.{Fits, Marks, Raised, Planted, Grown};
 
-use crate::exit::{next_exit, start_search};
-use buffers::{clear_first, smaller_of};
+use crate::exit::{Search, next_exit};
 use relaxation::arcs::put_node;
+use relaxation::net::Arcs;
+use relaxation::scratch::{Hints, Tree};
+use transport::stock::Stock;
 
 // The far end of edge a marked.
 pub fn mark_end(
-    from: &[usize],
-    to: &[usize],
+    arcs: &Arcs<'_>,
     flow: &[usize],
-    rank: &mut [usize],
-    parent: &mut [usize],
-    capacity: &mut [usize],
+    tree: &mut Tree<'_>,
     a: usize,
     count: usize,
 ) -> usize
-    requires { Fits from.now to.now flow.now rank.old parent.old capacity.old a }
-    ensures { Marks from.now to.now flow.now rank.old parent.old capacity.old a count rank.new parent.new capacity.new result }
+    requires { Fits arcs.now.from.now arcs.now.to.now flow.now tree.old.rank.now tree.old.parent.now tree.old.capacity.now a }
+    ensures { Marks arcs.now.from.now arcs.now.to.now flow.now tree.old.rank.now tree.old.parent.now tree.old.capacity.now a count tree.new.rank.now tree.new.parent.now tree.new.capacity.now result }
 {
-    let f = from[a];
-    let t = to[a];
-    if rank[t] == 0 {
-        let c = capacity[f];
-        rank[t] = count;
-        parent[t] = a;
-        capacity[t] = c;
+    let f = arcs.from[a];
+    let t = arcs.to[a];
+    if tree.rank[t] == 0 {
+        tree.rank[t] = count;
+        tree.parent[t] = a;
+        tree.capacity[t] = tree.capacity[f];
         return t;
     }
-    let c = smaller_of(capacity[t], flow[a]);
-    rank[f] = count;
-    parent[f] = a;
-    capacity[f] = c;
+    tree.rank[f] = count;
+    tree.parent[f] = a;
+    tree.capacity[f] = tree.capacity[t].min(flow[a]);
     f
 }
 
 // The marked ones of the first n entries of y raised by d.
-pub fn raise_marked(y: &mut [usize], rank: &[usize], n: usize, d: usize)
+// By index: of a loop over `iter_mut` beside another slice nothing is known of what it wrote; both slices go on behind the nodes.
+pub fn raise_marked(y: &mut [usize], tree: &Tree<'_>, n: usize, d: usize)
     requires n_in_bounds { n ≤ length y.old }
-    requires n_in_bounds_2 { n ≤ length rank.now }
+    requires n_in_bounds_2 { n ≤ length tree.now.rank.now }
     requires by_index { (v : ℕ) → v < n → at y.old v + d < word_limit }
-    ensures { Raised n rank.now d y.old y.new }
+    ensures { Raised n tree.now.rank.now d y.old y.new }
 {
     if d == 0 {
         return;
     }
-    let mut v = 0;
-    while v < n {
-        if rank[v] > 0 {
+    for (v, &rank) in tree.rank[..n].iter().enumerate() {
+        if rank > 0 {
             y[v] += d;
         }
-        v += 1;
     }
 }
 
 // Marks and raises, from s alone on, until a marked node wants something: that node.
+// Rows and flow are parameters of their own, since of a slice in a struct the caller no longer knows what it holds.
 pub fn grow_tree(
-    from: &[usize],
-    to: &[usize],
-    gap: &[usize],
-    weight: &[usize],
-    flow: &[usize],
-    n: usize,
+    arcs: &Arcs<'_>,
     y: &mut [usize],
-    rank: &mut [usize],
-    parent: &mut [usize],
-    capacity: &mut [usize],
-    supply: &[usize],
-    demand: &[usize],
-    out_head: &[usize],
-    out_next: &[usize],
-    in_head: &[usize],
-    in_next: &[usize],
-    queue: &mut [usize],
+    flow: &[usize],
+    tree: &mut Tree<'_>,
+    stock: &Stock<'_>,
+    hints: &mut Hints<'_>,
     s: usize,
-    amount: usize,
 ) -> usize
-    requires shaped { Shaped from.now to.now gap.now n }
-    requires weight_len { length weight.now ≡ length from.now }
-    requires lengths { Lengths n y.old rank.old parent.old capacity.old }
-    requires narrow { Narrow gap.now n }
-    requires flows { Flows from.now to.now gap.now weight.now n y.old flow.now supply.now demand.now }
-    requires rows_low { RowsLow n calm_limit y.old }
-    requires s_lt_n { s < n }
-    requires s_nonzero { 0 < at supply.now s }
-    requires amount_nonzero { 0 < amount }
-    requires planted { Planted n s amount rank.old capacity.old }
-    ensures { Grown from.now to.now gap.now flow.now n s amount peak_limit demand.now y.old y.new rank.new parent.new capacity.new result }
+    requires lengths { Lengths arcs.now.n y.old tree.old.rank.now tree.old.parent.now tree.old.capacity.now }
+    requires narrow { Narrow arcs.now.gap.now arcs.now.n }
+    requires flows { (weight : List ℕ) × ((length weight ≡ length arcs.now.from.now) × Flows arcs.now.from.now arcs.now.to.now arcs.now.gap.now weight arcs.now.n y.old flow.now stock.now.supply.now stock.now.demand.now) }
+    requires rows_low { RowsLow arcs.now.n calm_limit y.old }
+    requires s_lt_n { s < arcs.now.n }
+    requires s_nonzero { 0 < at stock.now.supply.now s }
+    requires amount_nonzero { 0 < at tree.old.capacity.now s }
+    requires planted { Planted arcs.now.n s (at tree.old.capacity.now s) tree.old.rank.now tree.old.capacity.now }
+    ensures { Grown arcs.now.from.now arcs.now.to.now arcs.now.gap.now flow.now arcs.now.n s (at tree.old.capacity.now s) peak_limit stock.now.demand.now y.old y.new tree.new.rank.now tree.new.parent.now tree.new.capacity.now result }
 {
     let mut count = 2;
     let mut t = s;
-    let mut x = start_search();
-    put_node(queue, 0, s);
-    while demand[t] == 0 {
+    let mut search = Search::default();
+    put_node(hints.queue, 0, s);
+    while stock.demand[t] == 0 {
         let marked = count - 1;
-        x = next_exit(
-            from, to, gap, flow, n, y, rank, out_head, out_next, in_head, in_next, queue, marked, x,
-        );
-        raise_marked(y, rank, n, x.slack);
-        t = mark_end(from, to, flow, rank, parent, capacity, x.edge, count);
-        put_node(queue, marked, t);
+        search = next_exit(arcs, flow, y, tree, hints, marked, search);
+        raise_marked(y, tree, arcs.n, search.exit.slack);
+        t = mark_end(arcs, flow, tree, search.exit.edge, count);
+        put_node(hints.queue, marked, t);
         count += 1;
     }
     t
 }
 
 // Node s alone marked, with all of amount to send.
-pub fn plant_root(rank: &mut [usize], capacity: &mut [usize], n: usize, s: usize, amount: usize)
-    requires rank_len { length rank.old ≡ n }
-    requires capacity_len { length capacity.old ≡ n }
+pub fn plant_root(tree: &mut Tree<'_>, n: usize, s: usize, amount: usize)
+    requires rank_len { length tree.old.rank.now ≡ n }
+    requires capacity_len { length tree.old.capacity.now ≡ n }
     requires s_lt_n { s < n }
-    ensures { Planted n s amount rank.new capacity.new }
+    ensures planted { Planted n s amount tree.new.rank.now tree.new.capacity.now }
+    ensures parent_same { tree.new.parent.now ≡ tree.old.parent.now }
 {
-    clear_first(rank, n);
-    rank[s] = 1;
-    capacity[s] = amount;
+    tree.rank.fill(0);
+    tree.rank[s] = 1;
+    tree.capacity[s] = amount;
 }

@@ -16,7 +16,7 @@ use Rattle.points.specs.Limits.{max_points}
 use Rattle.points.specs.Lists.{list_from, listed, segments_at, Falls, Linked}
 use Rattle.points.proofs.ListLaws.{listed-turn, listed-end}
 use Rattle.barycentre.specs.Flat.{ends_in, end_position, list_total}
-use Rattle.barycentre.specs.Bounds.{max_sum, EndsSummable, RowSummable}
+use Rattle.barycentre.specs.Bounds.{max_sum, EndsSummable, RowSummable, RowCounted, Ready}
 use Rattle.barycentre.specs.Steps.{Totalled}
 
 -- ---- one list
@@ -110,6 +110,16 @@ module _ {row head next far pos : List ℕ} where
   totalled-low s t i h =
       let b = s.headed.below i h in
       omega (arith, t.each i h, list-low s.ends (at head (at row i)) (s.heads_in (at row i) b) (s.few (at row i) b))
+
+  -- a row with its sums and counts can be put in order
+  pub row-ready : {counts totals sums moved : List ℕ} → RowSummable row head next far pos totals → RowCounted row counts moved → length sums ≡ length totals
+      → Totalled row head next far pos sums → Ready sums counts row moved
+  row-ready s k e t = record {
+    known = record {
+      each = λ i h. record { total_in = omega (arith, s.room.below i h); count_in = k.counted.below i h; total_low = totalled-low s t i h; count_low = k.few i h };
+    };
+    room = k.room;
+  }
 
 -- ---- the order of a list plays no part
 

@@ -6,3 +6,4 @@ pub mod OccursLaws
 pub mod WriteLaws
 pub mod CopyLaws
 pub mod PaddedLaws
+pub mod ZipLaws

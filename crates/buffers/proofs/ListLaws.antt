@@ -1,12 +1,11 @@
 -- Lists read by index: after a store, past the first entry, past the end, in a part, and full of one value.
 use mathlib.Core.Path.{◌≡◌, refl, sym, ap, ◌∙◌, subst}
 use mathlib.Core.List.{List, [], ◌∷◌, ◌++◌, tail, append-nil}
-use Prim.Native.Nat.{ℕ, zero, suc, ◌-◌, ◌+◌, ◌≤◌, ◌<◌}
+use Prim.Native.Nat.{ℕ, zero, suc, ◌≤◌, ◌<◌}
 use native.Mathlib.Decide.{ℕ_discrete, dec_lt}
-use native.Mathlib.Nat.{sub-zero, zero-sub, suc-sub-suc}
 use native.Mathlib.Omega.{arith}
 use lib.ListN.{length, get_or, set, take, drop, replicate, length-replicate, get_or-eq_default}
-use lib.Seq.{get_or-set_same, get_or-set_other, get_or-drop, get_or-take, length-take-le, drop-length, slice, length-slice, take-nil}
+use lib.Seq.{get_or-set_same, get_or-set_other, length-take-le, drop-length}
 use Rattle.graph.specs.Rows.{at}
 use Rattle.buffers.specs.Lists.{Below}
 
@@ -59,20 +58,3 @@ at_low n l h b i = go (dec_lt i (length l))
     go : Dec (i < length l) → at l i < n
     go (yes e) = b.below i e
     go (no d) = rw (get_or-eq_default l 0 {n = i} (omega arith)) h
-
--- ---- parts
-
--- what stands in a part is low where the part is
-pub slice-below : (n : ℕ) (l : List ℕ) (a b i : ℕ) → Below n (slice a b l) → a ≤ i → i < b → b ≤ length l → at l i < n
-slice-below n l a b i low from before inside =
-    let e : a + (i - a) ≡ i = omega arith in
-    let f : at (slice a b l) (i - a) ≡ at l i =
-    get_or-drop a (take b l) (i - a) 0 ∙ ap (λ (j : ℕ). at (take b l) j) e ∙ get_or-take b l i 0 before in
-    omega (arith, low.below (i - a) (omega (arith, length-slice a b l inside)))
-
--- a part of a list by its start and its end is the part by its start and its length
-pub take-slice : (a b : ℕ) (l : List ℕ) → slice a b l ≡ take (b - a) (drop a l)
-take-slice zero b l = rw (sub-zero b)
-take-slice (suc a) zero l = rw (zero-sub (suc a))
-take-slice (suc a) (suc b) [] = sym (take-nil (suc b - suc a))
-take-slice (suc a) (suc b) (x ∷ l) = rw (suc-sub-suc b a) (take-slice a b l)

@@ -1,12 +1,12 @@
 -- Buffers written entry by entry.
 use mathlib.Core.Path.{◌≡◌, refl, sym, ap, ◌∙◌}
-use mathlib.Core.List.{List, [], ◌∷◌, ◌++◌}
-use Prim.Native.Nat.{ℕ, suc, ◌+◌, ◌≤◌, ◌<◌}
+use mathlib.Core.List.{List, [], ◌∷◌, ◌++◌, append_assoc}
+use Prim.Native.Nat.{ℕ, suc, ◌+◌, ◌-◌, ◌≤◌, ◌<◌}
 use native.Mathlib.Nat.{add-zero}
 use native.Mathlib.Numerals.{add-one}
 use native.Mathlib.Omega.{arith}
 use lib.ListN.{length, get_or, take, drop, set, length-set, length-append, get_or-append, drop_of_length-le}
-use lib.Seq.{drop-cons, sets, sets-eq, take-append_seam, drop-append_seam, take_all}
+use lib.Seq.{drop-cons, drop-drop, sets, sets-eq, take-append_seam, drop-append_seam, take_all}
 use Rattle.buffers.specs.Written.{written, Stored}
 
 pub written-append : (l : List ℕ) (i : ℕ) (vs ws : List ℕ) → written l i (vs ++ ws) ≡ written (written l i vs) (i + length vs) ws
@@ -48,7 +48,7 @@ drop-turn l i h = rw (add-one i) (drop-cons l i 0 h)
 pub drop-end : (l : List ℕ) (i : ℕ) → length l ≤ i → drop i l ≡ []
 drop-end l i h = drop_of_length-le l h
 
--- ---- one entry, none, and two parts
+-- ---- one entry, none, a part, and two parts
 
 pub stored_one : (l : List ℕ) (p v : ℕ) → Stored l p (v ∷ []) (set l p v) (p + 1)
 unfolding written
@@ -57,6 +57,15 @@ stored_one l p v = record { holds = refl; counts = refl }
 pub stored-none : (l : List ℕ) (p : ℕ) → Stored l p [] l p
 unfolding written
 stored-none l p = record { holds = refl; counts = omega arith }
+
+-- a list put in the place of as many entries, from entry p up to entry q
+pub stored-put : (l : List ℕ) (p q : ℕ) (vs : List ℕ) → q ≡ p + length vs → q ≤ length l → Stored l p vs (take p l ++ (vs ++ drop (q - p) (drop p l))) q
+stored-put l p q vs e h = record {
+  holds =
+      let k : p + (q - p) ≡ p + length vs = omega arith in
+      rw (drop-drop (q - p) p l) (ap (λ (n : ℕ). take p l ++ (vs ++ drop n l)) k ∙ sym (append_assoc (take p l) vs (drop (p + length vs) l)) ∙ sym (written-sets l p vs ∙ sets-eq vs l p (omega arith)));
+  counts = e;
+}
 
 pub stored-long : {l l' vs : List ℕ} {i p : ℕ} → Stored l i vs l' p → length l' ≡ length l
 stored-long {l} {l'} {vs} {i} s = ap length s.holds ∙ written-length l i vs
@@ -73,6 +82,10 @@ pub stored-all : {l l' vs : List ℕ} {p : ℕ} → length l ≡ length vs → S
 stored-all {l} {l'} {vs} e s =
     sym (take_all (length vs) l' (omega (arith, ap length s.holds, written-length l 0 vs)))
     ∙ ap (take (length vs)) s.holds ∙ written-take l vs (omega arith)
+
+-- a list copied over the front is stored there
+pub stored-front : (l vs : List ℕ) {front : List ℕ} → length vs ≤ length l → front ≡ vs → Stored l 0 vs (front ++ drop (length vs) l) (length vs)
+stored-front l vs h e = record { holds = ap (λ (f : List ℕ). f ++ drop (length vs) l) e ∙ sym (written_is l vs h); counts = omega arith }
 
 -- ---- on the way
 

@@ -1,113 +1,34 @@
-// What is done to lent slices below all layers: entries cleared, copied, stored, read and changed, and the larger and the smaller of two
-// numbers.
+// What is done to lent slices below all layers: entries copied to the front of another, numbers stored in a buffer of narrower ones, and of two
+// lists the better one kept.
 #![tactic(auto)]
 
-ghost use Rattle.std.specs.Prelude.{◌≡◌, ◌++◌, ℕ, max, min, ◌-◌, ◌≤◌, ◌<◌, length, set, take, drop, replicate};
+mod keeping;
+
+ghost use Rattle.std.specs.Prelude.{◌≡◌, ◌++◌, ℕ, ◌≤◌, ◌<◌, length, take, drop};
 ghost use Rattle.graph.specs.Rows.{at};
 ghost use Rattle.buffers.specs.Written.{Stored};
 
-// The first n entries set to 0.
-pub fn clear_first(s: &mut [usize], n: usize)
-    requires { n ≤ length s.old }
-    ensures { s.new ≡ replicate n 0 ++ drop n s.old }
-{
-    let mut i = 0;
-    while i < n {
-        s[i] = 0;
-        i += 1;
-    }
-}
-
-// Every entry set to 0.
-pub fn clear_all(s: &mut [usize])
-    ensures { s.new ≡ replicate (length s.old) 0 }
-{
-    let n = s.len();
-    clear_first(s, n);
-}
-
-// Every entry copied to a slice as long.
-pub fn copy_all(values: &[usize], out: &mut [usize])
-    requires { length out.old ≡ length values.now }
-    ensures { out.new ≡ values.now }
-{
-    copy_front(values, out);
-}
+pub use crate::keeping::keep_fewer;
 
 // Every entry copied to the front of a slice. Answers how many they are.
+// It is `copy_from_slice` with the number of entries, from which the layout of rows goes on.
 pub fn copy_front(values: &[usize], out: &mut [usize]) -> usize
     requires { length values.now ≤ length out.old }
     ensures { Stored out.old 0 values.now out.new result }
 {
-    for i in 0..values.len() {
-        out[i] = values[i];
-    }
+    out[..values.len()].copy_from_slice(values);
     values.len()
 }
 
 // The first n numbers put at the front of a buffer of 16-bit numbers.
+// By index: of a loop over `iter_mut` beside another slice nothing is known of what it wrote; both slices are longer than n.
 pub fn store_u16(values: &[usize], n: usize, out: &mut [u16])
     requires n_in_bounds { n ≤ length values.now }
     requires n_in_bounds_2 { n ≤ length out.old }
     requires by_index { (i : ℕ) → i < n → at values.now i < 0x10000 }
     ensures { out.new ≡ take n values.now ++ drop n out.old }
 {
-    for i in 0..n {
-        out[i] = values[i] as u16;
+    for (i, &value) in values[..n].iter().enumerate() {
+        out[i] = value as u16;
     }
-}
-
-// The larger of two.
-pub fn larger_of(a: usize, b: usize) -> usize
-    ensures { result ≡ max a b }
-{
-    if a < b {
-        return b;
-    }
-    a
-}
-
-// The smaller of two.
-pub fn smaller_of(a: usize, b: usize) -> usize
-    ensures { result ≡ min a b }
-{
-    if a < b {
-        return a;
-    }
-    b
-}
-
-// The first n entries of xs copied to y.
-pub fn copy_first(xs: &[usize], y: &mut [usize], n: usize)
-    requires n_in_bounds { n ≤ length xs.now }
-    requires n_in_bounds_2 { n ≤ length y.old }
-    ensures { y.new ≡ take n xs.now ++ drop n y.old }
-{
-    let mut k = 0;
-    while k < n {
-        y[k] = xs[k];
-        k += 1;
-    }
-}
-
-// Entry i, or 0 where there is none.
-pub fn read_entry(xs: &[usize], i: usize) -> usize
-    ensures { result ≡ at xs.now i }
-{
-    if i < xs.len() {
-        return xs[i];
-    }
-    0
-}
-
-// d taken off entry i; what is left there.
-pub fn take_at(xs: &mut [usize], i: usize, d: usize) -> usize
-    requires i_in_bounds { i < length xs.old }
-    requires d_bound { d ≤ at xs.old i }
-    ensures value { result ≡ at xs.old i - d }
-    ensures xs_after { xs.new ≡ set xs.old i (at xs.old i - d) }
-{
-    let left = xs[i] - d;
-    xs[i] = left;
-    left
 }

@@ -1,9 +1,9 @@
-// Reads a table on standard input and prints its chart, or the line of its refusal.
+// Reads a table on standard input and prints its chart, or the line of its refusal. Like `convert` it reads, calls and writes.
 #![tactic(auto)]
 
 use intake::read_full;
 use listing::limits::MAX_LISTING;
-use listing::{ListingAnswer, write_listing};
+use listing::write_listing;
 use std::io;
 use table::limits::MAX_INPUT;
 
@@ -14,7 +14,7 @@ fn main(rt: HostRuntime) -> io::Result<()> {
     let n = read_full(&mut rt.stdin(), &mut input)?;
     let mut page = [0u8; MAX_LISTING];
     match write_listing(&input[..n], &mut page) {
-        ListingAnswer::Written(len) => rt.write_all(&page[..len]),
-        ListingAnswer::Short(_) => Ok(()),
+        Ok(len) => rt.write_all(&page[..len]),
+        Err(_) => Ok(()),
     }
 }

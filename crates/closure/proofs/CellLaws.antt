@@ -1,5 +1,6 @@
 -- Places of a matrix of n rows: every row is inside, and a place tells its row.
 use mathlib.Core.Path.{◌≡◌}
+use mathlib.Core.Bool.{Bool}
 use mathlib.Core.List.{List}
 use Prim.Native.Nat.{ℕ, ◌+◌, ◌*◌, ◌≤◌, ◌<◌}
 use native.Mathlib.Nat.{mul-le-mul_right, suc-mul}
@@ -13,7 +14,7 @@ row_below : (n u w : ℕ) → u < w → u * n + n ≤ w * n
 row_below n u w h = omega (arith, mul-le-mul_right n h, suc-mul u n)
 
 -- so every row is inside the matrix
-pub row_room : (n u : ℕ) → u < n → (reach : List ℕ) → MatrixRoom n reach → u * n + n ≤ length reach
+pub row_room : (n u : ℕ) → u < n → (reach : List Bool) → MatrixRoom n reach → u * n + n ≤ length reach
 row_room n u row reach room = omega (arith, row_below n u n row, room.room)
 
 -- a place before a row or behind it
@@ -29,7 +30,3 @@ cell_apart n u w v h ne = go (dec_lt w u) (dec_lt u w)
     go (yes l) d = before (omega (arith, row_below n w u l))
     go (no l) (yes k) = behind (omega (arith, row_below n u w k))
     go (no l) (no k) = absurd (ne (omega arith))
-
--- room is a matter of the length
-pub room-same : {n : ℕ} {old new : List ℕ} → length new ≡ length old → MatrixRoom n old → MatrixRoom n new
-room-same e r = record { room = omega (arith, r.room) }

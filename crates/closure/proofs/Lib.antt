@@ -1,4 +1,4 @@
 -- Why the matrix says at any time which nodes walks lead to.
 pub mod CellLaws
-pub mod ClosureLaws
 pub mod MarkLaws
+pub mod ClosureLaws

@@ -1,52 +1,52 @@
--- Loops over the marks of one row.
-use mathlib.Core.Path.{◌≡◌, refl, ap, ◌∙◌, subst}
-use mathlib.Core.List.{List}
-use Prim.Native.Nat.{ℕ, ◌+◌, ◌*◌, ◌≤◌, ◌<◌}
+-- What marking one row leaves of the whole matrix.
+use mathlib.Core.Path.{◌≡◌, ap, ◌∙◌}
+use mathlib.Core.Bool.{Bool, false, ◌||◌}
+use mathlib.Core.List.{List, ◌++◌}
+use Prim.Native.Nat.{ℕ, ◌+◌, ◌-◌, ◌≤◌, ◌<◌}
 use native.Mathlib.Omega.{arith}
-use lib.ListN.{length, set, length-set}
-use Rattle.graph.specs.Rows.{at}
-use Rattle.table.specs.Limits.{max_steps}
-use Rattle.buffers.proofs.ListLaws.{hit, miss, set_cases}
-use Rattle.buffers.proofs.CopyLaws.{Copied}
-use Rattle.closure.specs.Closure.{Fresh, either, RowMarked}
+use borrow.Rule.Slice.PartMut.{mid_of, post_of, put_mid, same_len_mid}
+use lib.ListN.{length, get_or, take, drop, length-drop, get_or-append}
+use lib.Seq.{get_or-append_right, get_or-drop, get_or-take, length-take-le}
+use Rattle.closure.specs.Closure.{RowMarked}
 
-pub marked-none : (base : ℕ) (fresh old : List ℕ) → RowMarked base 0 fresh old old
-marked-none base fresh old =
-    record { long = refl; inside = λ v h. absurd (omega arith); before = λ i h. refl; behind = λ i h. refl }
+-- n marks from base on are set where fresh is, and no others
+pub record Overlaid (base n : ℕ) (fresh old new : List Bool) : Type 0 where
+  pub long : length new ≡ length old
+  pub inside : (v : ℕ) → v < n → get_or new (base + v) false ≡ get_or old (base + v) false || get_or fresh v false
+  pub before : (i : ℕ) → i < base → get_or new i false ≡ get_or old i false
+  pub behind : (i : ℕ) → base + n ≤ i → get_or new i false ≡ get_or old i false
 
--- one mark more
-pub marked_more : {base k : ℕ} {fresh old now : List ℕ} (x : ℕ) → base + k < length now → x ≡ either (at fresh k) (at now (base + k))
-    → RowMarked base k fresh old now → RowMarked base (k + 1) fresh old (set now (base + k) x)
-marked_more {base} {k} {fresh} {old} {now} x room e m =
-    record {
-      long = length-set now (base + k) x ∙ m.long;
-      inside = λ v h.
-          set_cases (λ (y : ℕ). y ≡ either (at fresh v) (at old (base + v))) now (base + k) x (base + v) room (λ s. here v s)
-          (λ ne. m.inside v (lower v h ne));
-      before = λ i h. miss now (base + k) x i (λ s. omega arith) ∙ m.before i h;
-      behind = λ i h. miss now (base + k) x i (λ s. omega arith) ∙ m.behind i (omega arith);
-    }
-  where
-    stays : at now (base + k) ≡ at old (base + k)
-    stays = m.behind (base + k) (omega arith)
+module _ (base n k : ℕ) (fresh old row : List Bool) (room : base + n ≤ length old) (part : k ≡ n) (m : RowMarked fresh (mid_of base k old) row) where
+  abbrev new : List Bool
+  new = put_mid base k old row
 
-    here : (v : ℕ) → base + k ≡ base + v → x ≡ either (at fresh v) (at old (base + v))
-    here v s =
-        let same : k ≡ v = omega arith in
-        subst (λ (j : ℕ). x ≡ either (at fresh j) (at old (base + j))) same (e ∙ ap (either (at fresh k)) stays)
+  front-long : length (take base old) ≡ base
+  front-long = length-take-le base old (omega arith)
 
-    lower : (v : ℕ) → v < k + 1 → (base + v ≡ base + k → ⊥) → v < k
-    lower v h ne = omega (arith, ne)
+  row_long : length row ≡ n
+  row_long = m.long ∙ length-take-le k (drop base old) (omega (arith, length-drop base old)) ∙ part
 
-pub marked_all : {base k n : ℕ} {fresh old now : List ℕ} → k ≡ n → RowMarked base k fresh old now → RowMarked base n fresh old now
-marked_all {base} {k} {n} {fresh} {old} {now} e m = subst (λ (j : ℕ). RowMarked base j fresh old now) e m
+  -- what stands from base on
+  after-at : (i : ℕ) → base ≤ i → get_or new i false ≡ get_or (row ++ post_of base k old) (i - base) false
+  after-at i h = get_or-append_right (take base old) (row ++ post_of base k old) i false (omega (arith, front-long)) ∙ ap (λ (j : ℕ). get_or (row ++ post_of base k old) (i - j) false) front-long
 
--- a copy of row b with b marked
-pub fresh-is : (n b : ℕ) (reach fresh : List ℕ) {k : ℕ} → b < n → n ≤ max_steps → n ≤ k → Copied max_steps (λ (j : ℕ). at reach (b * n + j)) k fresh
-    → Fresh n b reach (set fresh b 1)
-fresh-is n b reach fresh inside few all c =
-    record {
-      long = length-set fresh b 1 ∙ c.long;
-      own = omega (arith, hit fresh b 1 b (omega (arith, c.long)) refl);
-      other = λ v h ne. miss fresh b 1 v ne ∙ c.entry v (omega arith);
-    }
+  pub overlaid : Overlaid base n fresh old new
+  overlaid = record { long = same_len_mid base k old row m.long; inside = inside; before = before; behind = behind }
+    where
+      inside : (v : ℕ) → v < n → get_or new (base + v) false ≡ get_or old (base + v) false || get_or fresh v false
+      inside v h =
+          let place : base + v - base ≡ v = omega arith in
+          after-at (base + v) (omega arith) ∙ ap (λ (j : ℕ). get_or (row ++ post_of base k old) j false) place
+          ∙ get_or-append row (post_of base k old) false v (omega (arith, row_long))
+          ∙ m.inside v (omega (arith, row_long, m.long))
+          ∙ ap (λ (x : Bool). x || get_or fresh v false) (get_or-take k (drop base old) v false (omega arith) ∙ get_or-drop base old v false)
+
+      before : (i : ℕ) → i < base → get_or new i false ≡ get_or old i false
+      before i h = get_or-append (take base old) (row ++ post_of base k old) false i (omega (arith, front-long)) ∙ get_or-take base old i false h
+
+      behind : (i : ℕ) → base + n ≤ i → get_or new i false ≡ get_or old i false
+      behind i h =
+          let place : base + (k + (i - base - length row)) ≡ i = omega (arith, row_long) in
+          after-at i (omega arith) ∙ get_or-append_right row (post_of base k old) (i - base) false (omega (arith, row_long))
+          ∙ get_or-drop k (drop base old) (i - base - length row) false ∙ get_or-drop base old (k + (i - base - length row)) false
+          ∙ ap (λ (j : ℕ). get_or old j false) place

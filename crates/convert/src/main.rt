@@ -5,7 +5,6 @@ use converting::convert_table;
 use intake::read_full;
 use std::io;
 use table::limits::MAX_INPUT;
-use writing::WriteAnswer;
 use writing::limits::MAX_SHORTEST;
 
 // Of a longer input the first bytes are judged, which makes no difference: no table is that long (`converted-whole`). Nothing that is
@@ -15,7 +14,7 @@ fn main(rt: HostRuntime) -> io::Result<()> {
     let n = read_full(&mut rt.stdin(), &mut input)?;
     let mut page = [0u8; MAX_SHORTEST];
     match convert_table(&input[..n], &mut page) {
-        WriteAnswer::Written(len) => rt.write_all(&page[..len]),
-        WriteAnswer::Refused(_) => Ok(()),
+        Ok(len) => rt.write_all(&page[..len]),
+        Err(_) => Ok(()),
     }
 }

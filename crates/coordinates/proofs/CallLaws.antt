@@ -1,68 +1,61 @@
 -- The ends of the call: refused as the chart is, refused for its points, a short buffer, and the best x.
 use mathlib.Core.Path.{◌≡◌, refl, sym, ap, subst, ◌∙◌}
 use mathlib.Core.Bool.{Bool, true, false, cond}
-use mathlib.Core.List.{List, [], ◌∷◌, ◌++◌, map}
+use mathlib.Core.List.{List, [], ◌∷◌, ◌++◌}
 use Prim.Native.Nat.{ℕ, ◌≤◌, ◌<◌}
 use native.Mathlib.Omega.{arith}
 use native.Mathlib.Nat.{mul-le-mul_right}
 use borrow.Author.Tests.{leb-true, le-leb, lt-leb}
 use lib.Dec.{leb}
 use lib.ListN.{length, get_or, take, drop, length-map, get_or-map}
-use lib.Seq.{take_at, get_or-take, length-take-le}
+use lib.Seq.{take_at, get_or-take}
+use Rattle.std.specs.Prelude.{Result, Ok, Err}
 use Rattle.graph.specs.declared.Edge.{Edge}
 use Rattle.graph.specs.declared.TableEdge.{TableEdge}
-use Rattle.graph.specs.Directed.{no_table_edge, directed}
+use Rattle.graph.specs.Directed.{directed}
 use Rattle.graph.specs.Rows.{at, no_edge}
 use Rattle.outcome.specs.declared.Refusal.{Refusal}
 use Rattle.outcome.specs.declared.Refusal.TheVariants.{ManyPoints, ShortBuffer, LargeChart}
-use Rattle.outcome.specs.declared.Verdict as verdict
 use Rattle.outcome.specs.Refusal.{Outcome, done, refused, then_do, demand, numbers_of, refusal_in}
 use Rattle.outcome.proofs.ToldLaws.{number-some}
-use Rattle.table.specs.declared.types.Table.{Table}
 use Rattle.table.specs.Limits.{max_weight}
+use Rattle.table.specs.Calls.{contents_in}
 use Rattle.table.specs.Table.{Contents, contents_of, read}
-use Rattle.rows.specs.Placed.{outcome_by}
 use Rattle.rows.specs.Answers.{rows_by}
 use Rattle.rows.proofs.StepLaws.{never}
 use Rattle.layering.specs.Calls.{table_rows_found, rows_of_table}
 use Rattle.points.specs.Limits.{max_points}
 use Rattle.merging.specs.Merged.{no_merged_edge, merged, as_edge, drawn_edges}
 use Rattle.merging.specs.Merging.{max_added, Mergeable}
-use Rattle.merging.proofs.FirstLaws.{merged-light}
+use Rattle.merging.proofs.FirstLaws.{merged-few, merged-light}
 use Rattle.merging.proofs.SameLaws.{drawn-length, drawn-get}
-use Rattle.fewest.proofs.CompleteLaws.{drawing-count}
-use Rattle.ordering.specs.declared.chart.EdgeEnds.{EdgeEnds}
-use Rattle.ordering.specs.declared.types.ChartFound.{ChartFound}
+use Rattle.flatten.specs.Flat.{Flat}
+use Rattle.flatten.specs.Flat.{flat_edges}
+use Rattle.ordering.specs.declared.types.TableChart.{TableChart}
 use Rattle.ordering.specs.Calls.{drawn_in, point_count, unless_many, chart_of_table, filled}
-use Rattle.ordering.specs.Charting.{charted_by, Split, TableFound}
-use Rattle.ordering.proofs.SplitLaws.{part-from, part-weight}
-use Rattle.ordering.proofs.OpenedLaws.{chart-refused, Opened, rows_of, opened-mergeable, opened-drawn, opened-chart}
+use Rattle.ordering.proofs.SplitLaws.{weights, flat-tails, flat-heads, flat-weights}
+use Rattle.ordering.proofs.OpenedLaws.{Opened, opened-mergeable, opened-drawn, opened-chart}
 use Rattle.spacing.specs.Limits.{max_xs}
-use Rattle.coordinates.specs.declared.XsAnswer.{XsAnswer}
-use Rattle.coordinates.specs.declared.XsAnswer.TheVariants.{Spaced, Refused}
 use Rattle.coordinates.specs.Calls.{ChartX, chart_xs, Spacing, spacing, unless_past, xs_of_table, XsEnd, xs_end, xs_call, xs_numbers, rows_held, lines_in, LowX, XsBest}
-use Rattle.coordinates.specs.Costing.{Light, Lined, LinesSpaced}
+use Rattle.coordinates.specs.Costing.{Lined, LinesSpaced}
 
 -- what the call promises of an answer and the buffer at its end
-abbrev pub Ended : List ℕ → List ℕ → List ℕ → XsAnswer → Type 0
+abbrev pub Ended : List ℕ → List ℕ → List ℕ → Result ℕ Refusal → Type 0
 Ended bytes old new r = (xs_numbers r ≡ (xs_call bytes old).numbers) × ((new ≡ (xs_call bytes old).xs) × XsBest bytes (xs_numbers r) new)
 
 -- a refusal is no answer whose x could be better
 no-best : (bytes new : List ℕ) (r : Refusal) → XsBest bytes (numbers_of r) new
 no-best bytes new r zero = absurd (omega (arith, zero, number-some r))
 
-refused_end : (bytes old : List ℕ) (r : Refusal) → xs_end (xs_of_table bytes) old ≡ record { numbers = numbers_of r; xs = old } → Ended bytes old old (Refused r)
+refused_end : (bytes old : List ℕ) (r : Refusal) → xs_end (xs_of_table bytes) old ≡ record { numbers = numbers_of r; xs = old } → Ended bytes old old (Err r)
 unfolding xs_call
 refused_end bytes old r e = (sym (ap (λ x. x.numbers) e), (sym (ap (λ x. x.xs) e), no-best bytes old r))
 
 -- ---- as the chart is
 
-pub ended-refused : (bytes old : List ℕ) (f : ChartFound) {r : Refusal} → TableFound bytes f → f.verdict ≡ verdict.TheVariants.Refused r
-    → Ended bytes old old (Refused r)
+pub ended-refused : (bytes old : List ℕ) {r : Refusal} → chart_of_table bytes ≡ refused r → Ended bytes old old (Err r)
 unfolding xs_of_table
-ended-refused bytes old f {r} h v =
-    let e : chart_of_table bytes ≡ refused r = chart-refused (chart_of_table bytes) (sym (ap (λ u. outcome_by u (charted_by f)) v) ∙ h.says) in
-    refused_end bytes old r (ap (λ o. xs_end (then_do o unless_past) old) e)
+ended-refused bytes old {r} e = refused_end bytes old r (ap (λ o. xs_end (then_do o unless_past) old) e)
 
 -- ---- with a chart
 
@@ -72,114 +65,102 @@ directed-weight true e = refl
 directed-weight false e = refl
 
 -- No line weighs more than all edges of a table can.
-module _ (flags : List Bool) (m : ℕ) (edges : List TableEdge) (ok : Mergeable m edges) where
-  abbrev own : List TableEdge
-  own = take m edges
-
-  own-count : length own ≡ m
-  own-count = length-take-le m edges (omega (arith, ok.few, ok.long))
-
-  weight_low : (i : ℕ) → i < length (map (λ (e : Edge). e.weight) (drawn_edges flags (merged own)))
-      → at (map (λ (e : Edge). e.weight) (drawn_edges flags (merged own))) i ≤ max_added
+module _ (flags : List Bool) (edges : List TableEdge) (ok : Mergeable edges) where
+  weight_low : (i : ℕ) → i < length (weights (drawn_edges flags (merged edges))) → at (weights (drawn_edges flags (merged edges))) i ≤ max_added
   weight_low i h =
-      let inside : i < length (merged own) = omega (arith, length-map (drawn_edges flags (merged own)) (λ (e : Edge). e.weight), drawn-length flags (merged own)) in
-      let k = get_or (merged own) i no_merged_edge in
+      let inside : i < length (merged edges) = omega (arith, length-map (drawn_edges flags (merged edges)) (λ (e : Edge). e.weight), drawn-length flags (merged edges)) in
+      let k = get_or (merged edges) i no_merged_edge in
       omega (
         arith,
-        get_or-map (λ (e : Edge). e.weight) (drawn_edges flags (merged own)) i no_edge,
-        ap (λ (e : Edge). e.weight) (drawn-get flags (merged own) i inside),
+        get_or-map (λ (e : Edge). e.weight) (drawn_edges flags (merged edges)) i no_edge,
+        ap (λ (e : Edge). e.weight) (drawn-get flags (merged edges) i inside),
         directed-weight (get_or flags k.first false) (as_edge k),
-        merged-light max_weight own (λ j l. omega (arith, ap (λ (e : TableEdge). e.weight) (get_or-take m edges j no_table_edge (omega (arith, own-count))), (ok.each j (omega (arith, own-count))).weight_low)) i inside,
-        own-count,
+        merged-light max_weight edges (λ j l. (ok.each j l).weight_low) i inside,
         mul-le-mul_right max_weight ok.few,
       )
 
-module _ (bytes : List ℕ) (table : Table) (flags : List Bool) (f : ChartFound) (o : Opened bytes table flags f) (old : List ℕ) where
+module _ {bytes : List ℕ} {r : TableChart} (o : Opened bytes r) (old : List ℕ) where
   abbrev rows : List ℕ
-  rows = o.placing.rows
+  rows = r.chart.rows.items
+
+  abbrev order : List ℕ
+  order = r.chart.order.items
 
   abbrev drawn : List Edge
-  drawn = drawn_in o.placing.contents
+  drawn = drawn_in (contents_in r.table)
 
-  out-is : xs_of_table bytes ≡ unless_past o.placing
+  out-is : xs_of_table bytes ≡ unless_past (record { contents = contents_in r.table; rows = rows })
   unfolding xs_of_table
   out-is = ap (λ x. then_do x unless_past) o.is
 
   -- more points than get an x
-  pub ended-large : max_xs < f.points → Ended bytes old old (Refused LargeChart)
+  pub ended-large : max_xs < length order → Ended bytes old old (Err LargeChart)
   ended-large h =
       refused_end bytes old LargeChart (rw (out-is, lt-leb (point_count rows drawn) max_xs (omega (arith, o.points_are))))
 
-  module _ (few : f.points ≤ max_xs) where
+  module _ (few : length order ≤ max_xs) where
     out-done : xs_of_table bytes ≡ done (spacing rows drawn)
     out-done = rw (out-is, le-leb (point_count rows drawn) max_xs (omega (arith, o.points_are)))
 
     -- the rows, the lines and the order, as the search for x takes them
-    module _ (ends : EdgeEnds) (split : Split (drawn_edges flags (merged (take table.m table.edges))) ends.count ends.from ends.to ends.weight) where
-      split-drawn : Split drawn ends.count ends.from ends.to ends.weight
-      split-drawn = subst (λ (l : List Edge). Split l ends.count ends.from ends.to ends.weight) (opened-drawn bytes table flags f o) split
+    module _ (ends : Flat) (same : flat_edges ends ≡ drawn_edges r.turned.items (merged r.table.edges.items)) where
+      flat-drawn : flat_edges ends ≡ drawn
+      flat-drawn = same ∙ opened-drawn o
 
-      lights : Light (take ends.count ends.from) (take ends.count ends.weight)
-      lights =
-          record {
-            long = sym (part-weight split) ∙ part-from split;
-            low = λ i h.
-                rw split.weights
-                (weight_low flags table.m table.edges (opened-mergeable bytes table flags f o) i (omega (arith, ap length split.weights)));
-          }
-
-      pub lined : Lined (take table.n f.rows) ends (take f.points f.order)
+      pub lined : Lined rows ends order
       lined =
           record {
-            drawn = drawn;
-            split = split-drawn;
-            chart = rw (rows_of bytes table flags f o, split-drawn.tails, split-drawn.heads) (opened-chart bytes table flags f o);
-            light = lights;
-            order_is = rw (rows_of bytes table flags f o) o.order_is;
-            few = rw (rows_of bytes table flags f o) (omega (arith, o.points_are));
+            chart = rw (flat-tails ends flat-drawn, flat-heads ends flat-drawn) (opened-chart o);
+            few_lines =
+                omega (
+                  arith,
+                  ap length (flat-tails ends same),
+                  length-map (drawn_edges r.turned.items (merged r.table.edges.items)) (λ (e : Edge). e.from),
+                  drawn-length r.turned.items (merged r.table.edges.items),
+                  merged-few r.table.edges.items,
+                  (opened-mergeable o).few,
+                );
+            light = record { low = rw (flat-weights ends same) (weight_low r.turned.items r.table.edges.items (opened-mergeable o)) };
+            order_is = rw flat-drawn o.order_is;
+            few = rw flat-drawn (omega (arith, o.points_are));
           }
 
       -- What is stored are the first entries of what was found, and the entries behind them stay.
-      pub ended-spaced : f.points ≤ length old → (found : List ℕ) → LinesSpaced (take table.n f.rows) ends (take f.points f.order) found
-          → (new : List ℕ) → new ≡ take f.points found ++ drop f.points old → Ended bytes old new (Spaced f.points)
+      pub ended-spaced : length order ≤ length old → (found : List ℕ) → LinesSpaced rows ends order found
+          → (new : List ℕ) → new ≡ take (length order) found ++ drop (length order) old → Ended bytes old new (Ok (length order))
       unfolding xs_call
       ended-spaced h found s new e = (numbers, (stored, λ zero. (best, low)))
         where
           best-found : ChartX rows drawn (take (point_count rows drawn) found)
-          best-found = subst (λ (ys : List ℕ). ChartX ys drawn (take (point_count ys drawn) found)) (rows_of bytes table flags f o) (s.best drawn split-drawn)
+          best-found = subst (λ (es : List Edge). ChartX rows es (take (point_count rows es) found)) flat-drawn s.best
 
-          points-found : take f.points found ≡ take (point_count rows drawn) found
+          points-found : take (length order) found ≡ take (point_count rows drawn) found
           points-found = ap (λ (k : ℕ). take k found) o.points_are
 
-          xs-are : chart_xs rows drawn ≡ take f.points found
-          xs-are =
-              subst (λ (ys : List ℕ). chart_xs ys drawn ≡ take (point_count ys drawn) found) (rows_of bytes table flags f o) (s.is drawn split-drawn)
-              ∙ sym points-found
+          xs-are : chart_xs rows drawn ≡ take (length order) found
+          xs-are = subst (λ (es : List Edge). chart_xs rows es ≡ take (point_count rows es) found) flat-drawn s.is ∙ sym points-found
 
-          count : length (take f.points found) ≡ f.points
+          count : length (take (length order) found) ≡ length order
           count = ap length points-found ∙ best-found.one_a_point ∙ sym o.points_are
 
           front : take (point_count rows drawn) new ≡ take (point_count rows drawn) found
           front =
-              ap (λ (k : ℕ). take k new) (sym o.points_are) ∙ ap (take f.points) e
-              ∙ take_at (take f.points found) (drop f.points old) f.points count ∙ points-found
+              ap (λ (k : ℕ). take k new) (sym o.points_are) ∙ ap (take (length order)) e
+              ∙ take_at (take (length order) found) (drop (length order) old) (length order) count ∙ points-found
 
           end_is : xs_end (xs_of_table bytes) old ≡ record { numbers = 0 ∷ point_count rows drawn ∷ []; xs = filled (chart_xs rows drawn) old }
           end_is = rw (out-done, le-leb (point_count rows drawn) (length old) (omega (arith, o.points_are)))
 
-          numbers : 0 ∷ f.points ∷ [] ≡ (xs_end (xs_of_table bytes) old).numbers
+          numbers : 0 ∷ length order ∷ [] ≡ (xs_end (xs_of_table bytes) old).numbers
           numbers = ap (λ (k : ℕ). 0 ∷ k ∷ []) o.points_are ∙ sym (ap (λ x. x.numbers) end_is)
 
           stored : new ≡ (xs_end (xs_of_table bytes) old).xs
           stored =
-              e ∙ ap (λ (k : ℕ). take f.points found ++ drop k old) (sym count) ∙ ap (λ (l : List ℕ). filled l old) (sym xs-are)
+              e ∙ ap (λ (k : ℕ). take (length order) found ++ drop k old) (sym count) ∙ ap (λ (l : List ℕ). filled l old) (sym xs-are)
               ∙ sym (ap (λ x. x.xs) end_is)
 
           best : ChartX (rows_held bytes) (lines_in bytes) (take (point_count (rows_held bytes) (lines_in bytes)) new)
           best = rw (o.rows_found, o.said, front) best-found
-
-          order-count : length (take f.points f.order) ≡ point_count rows drawn
-          order-count = ap length o.order_is ∙ drawing-count rows drawn
 
           low-here : LowX (point_count rows drawn) new
           low-here p h =
@@ -188,15 +169,15 @@ module _ (bytes : List ℕ) (table : Table) (flags : List Bool) (f : ChartFound)
                 get_or-take (point_count rows drawn) new p 0 h,
                 ap (λ (l : List ℕ). at l p) front,
                 get_or-take (point_count rows drawn) found p 0 h,
-                s.low p (omega (arith, order-count)),
-                order-count,
+                s.low p (omega (arith, o.points_are)),
+                o.points_are,
               )
 
           low : LowX (point_count (rows_held bytes) (lines_in bytes)) new
           low = rw (o.rows_found, o.said) low-here
 
     -- a buffer that has too few entries
-    pub ended-short : length old < f.points → Ended bytes old old (Refused ShortBuffer)
+    pub ended-short : length old < length order → Ended bytes old old (Err ShortBuffer)
     ended-short h =
         refused_end bytes old ShortBuffer (rw (out-done, lt-leb (point_count rows drawn) (length old) (omega (arith, o.points_are))))
 

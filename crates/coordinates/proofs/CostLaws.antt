@@ -12,12 +12,11 @@ use Rattle.graph.specs.declared.Edge.{Edge}
 use Rattle.graph.specs.Rows.{at}
 use Rattle.graph.specs.Search.{run}
 use Rattle.points.specs.Points.{Segment, between, chain, segments_from, segments}
-use Rattle.points.proofs.PointLaws.{tails, heads}
 use Rattle.spacing.specs.Limits.{plain_factor, end_factor, inner_factor}
 use Rattle.spacing.specs.Coordinates.{Costed}
 use Rattle.spacing.specs.Flat.{costed_of}
 use Rattle.coordinates.specs.Costs.{priced, costed_from, chart_costed}
-use Rattle.coordinates.specs.Costing.{factor_at, line_costs, costs_from, lines_of}
+use Rattle.coordinates.specs.Costing.{factor_at, line_costs, costs_from}
 
 abbrev pub weights : List Edge → List ℕ
 weights edges = map (λ (e : Edge). e.weight) edges
@@ -98,13 +97,6 @@ flat-again (s ∷ cs) = ap (λ (l : List Costed). s ∷ l) (flat-again cs)
 pub costed-flat : (ys : List ℕ) (edges : List Edge) → Ends (length ys) edges
     → costed_of (map (λ (s : Segment). s.upper) (segments ys edges)) (map (λ (s : Segment). s.lower) (segments ys edges)) (costs_from ys edges) ≡ chart_costed ys edges
 costed-flat ys edges ends = rw (← chart-segments ys edges, ← chart-costs ys edges ends) (flat-again (chart_costed ys edges))
-
--- ---- gaps play no part
-
-pub any-costs : (ys : List ℕ) (edges : List Edge) → costs_from ys (lines_of (tails edges) (heads edges) (weights edges)) ≡ costs_from ys edges
-unfolding costs_from lines_of
-any-costs ys [] = refl
-any-costs ys (e ∷ edges) = ap (λ (l : List ℕ). line_costs e.weight (between ys e) ++ l) (any-costs ys edges)
 
 -- ---- how large a cost is
 

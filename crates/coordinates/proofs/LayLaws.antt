@@ -1,74 +1,103 @@
 -- The loops that lay costs: segment after segment of a line, and line after line.
-use mathlib.Core.Path.{◌≡◌, refl, sym, ap, ◌∙◌}
-use mathlib.Core.List.{List, [], ◌∷◌, ◌++◌, map, tail}
-use Prim.Native.Nat.{ℕ, zero, suc, ◌+◌, ◌-◌, ◌*◌, ◌≤◌, ◌<◌}
-use native.Mathlib.Nat.{not-suc-le-zero, le_of_suc-le-suc}
+use mathlib.Core.Path.{◌≡◌, refl, sym, ap, ◌∙◌, subst}
+use mathlib.Core.List.{List, [], ◌∷◌, ◌++◌, append-nil, append_assoc}
+use Prim.Native.Nat.{ℕ, suc, ◌+◌, ◌-◌, ◌*◌, ◌≤◌, ◌<◌}
+use native.Mathlib.Nat.{zero-add}
 use native.Mathlib.Numerals.{add-one}
 use native.Mathlib.Omega.{arith}
-use lib.ListN.{length, get_or, drop, length-map, length-append, drop_of_length-le}
-use lib.Seq.{drop-cons}
+use lib.ListN.{length, get_or, take, drop, length-map, length-append}
+use lib.Seq.{take-suc, take_all}
+use Rattle.std.proofs.lemmas.List.{get_or-map, take-append-drop}
+use Rattle.flatten.specs.Flat.{Flat}
+use Rattle.flatten.specs.Flat.{flat_edges}
+use Rattle.relaxation.proofs.EdgesLaws.{length-edges_of, edge_at}
 use Rattle.graph.specs.declared.Edge.{Edge}
 use Rattle.graph.specs.Rows.{at, no_edge}
 use Rattle.graph.specs.Search.{run}
-use Rattle.buffers.proofs.ListLaws.{at_tail}
-use Rattle.buffers.proofs.RunLaws.{run_length, run-turn, run_end}
+use Rattle.buffers.proofs.RunLaws.{run_length, run_at}
 use Rattle.points.specs.Points.{between, segments_from}
-use Rattle.points.proofs.EdgeLaws.{between_at}
 use Rattle.points.proofs.PointLaws.{chain_length}
-use Rattle.coordinates.specs.Costing.{factor_at, line_costs, costs_from, lines_of}
+use Rattle.coordinates.specs.Costing.{factor_at, line_costs, costs_from}
 
 -- ---- the segments of a line
 
--- the costs of those from j on, up to e
-abbrev pub costs_on : ℕ → ℕ → ℕ → ℕ → List ℕ
-costs_on weight k j e = map (λ (l : ℕ). weight * factor_at l k) (run j (e - j))
-
 module _ (weight k : ℕ) where
-  pub costs-start : line_costs weight k ≡ costs_on weight k 0 (k + 1)
-  unfolding line_costs
-  costs-start =
-      let e : suc k ≡ k + 1 - 0 = omega arith in
-      ap (λ (i : ℕ). map (λ (l : ℕ). weight * factor_at l k) (run 0 i)) e
-
-  pub costs-turn : (j e r : ℕ) → j < e → r ≡ factor_at j k → costs_on weight k j e ≡ weight * r ∷ costs_on weight k (j + 1) e
-  costs-turn j e r h is = rw is (ap (map (λ (l : ℕ). weight * factor_at l k)) (run-turn j e h))
-
-  pub costs-end : (j e : ℕ) → e ≤ j → costs_on weight k j e ≡ []
-  costs-end j e h = ap (map (λ (l : ℕ). weight * factor_at l k)) (run_end j e h)
-
   pub line-length : length (line_costs weight k) ≡ k + 1
   unfolding line_costs
   line-length = length-map (run 0 (suc k)) (λ (l : ℕ). weight * factor_at l k) ∙ run_length 0 (suc k) ∙ sym (add-one k)
 
+  line-at : (j : ℕ) → j < k + 1 → get_or (line_costs weight k) j 0 ≡ weight * factor_at j k
+  unfolding line_costs
+  line-at j h =
+      get_or-map (λ (l : ℕ). weight * factor_at l k) (run 0 (suc k)) j 0 0 (omega (arith, run_length 0 (suc k)))
+      ∙ ap (λ (l : ℕ). weight * factor_at l k) (run_at 0 (suc k) j 0 (omega arith) ∙ zero-add j)
+
+  -- the costs of the first j segments stand behind those before
+  pub line-more : (before : List ℕ) (j : ℕ) {costs new : List ℕ} {c r : ℕ} → costs ≡ before ++ take j (line_costs weight k) → j < k + 1 → r ≡ factor_at j k → c ≡ weight * r
+      → new ≡ costs ++ c ∷ [] → new ≡ before ++ take (j + 1) (line_costs weight k)
+  line-more before j {costs} {new} {c} {r} so_far h is cost more =
+      more ∙ ap (λ (l : List ℕ). l ++ c ∷ []) so_far ∙ append_assoc before (take j (line_costs weight k)) (c ∷ [])
+      ∙ ap (λ (l : List ℕ). before ++ l)
+      (rw (add-one j, take-suc (line_costs weight k) j 0 (omega (arith, line-length)), line-at j h, cost, is) refl)
+
 -- ---- the lines
 
-lines-length : (from to weight : List ℕ) → length (lines_of from to weight) ≡ length from
-unfolding lines_of
-lines-length [] to weight = refl
-lines-length (a ∷ from) to weight = ap suc (lines-length from (tail to) (tail weight))
+costs-join : (ys : List ℕ) (es fs : List Edge) → costs_from ys (es ++ fs) ≡ costs_from ys es ++ costs_from ys fs
+unfolding costs_from
+costs-join ys [] fs = refl
+costs-join ys (e ∷ es) fs =
+    ap (λ (l : List ℕ). line_costs e.weight (between ys e) ++ l) (costs-join ys es fs)
+    ∙ sym (append_assoc (line_costs e.weight (between ys e)) (costs_from ys es) (costs_from ys fs))
 
-line_at : (from to weight : List ℕ) (i : ℕ) → i < length from
-    → get_or (lines_of from to weight) i no_edge ≡ record { from = at from i; to = at to i; gap = 0; weight = at weight i }
-unfolding lines_of
-line_at [] to weight i h = absurd (not-suc-le-zero h)
-line_at (a ∷ from) to weight zero h = refl
-line_at (a ∷ from) to weight (suc i) h = rw (line_at from (tail to) (tail weight) i (le_of_suc-le-suc h), at_tail to i, at_tail weight i)
+costs-one : (ys : List ℕ) (e : Edge) → costs_from ys (e ∷ []) ≡ line_costs e.weight (between ys e)
+unfolding costs_from
+costs-one ys e = append-nil (line_costs e.weight (between ys e))
 
--- the costs of the lines from number i on
-abbrev pub costs_rest : List ℕ → List ℕ → List ℕ → List ℕ → ℕ → List ℕ
-costs_rest ys from to weight i = costs_from ys (drop i (lines_of from to weight))
+module _ (ys : List ℕ) (edges : List Edge) (i : ℕ) (h : i < length edges) where
+  abbrev line : Edge
+  line = get_or edges i no_edge
 
-module _ (ys from to weight : List ℕ) (i : ℕ) where
-  pub rest-turn : i < length from → (k : ℕ) → k ≡ between_at ys from to i
-      → costs_rest ys from to weight i ≡ line_costs (at weight i) k ++ costs_rest ys from to weight (i + 1)
-  unfolding costs_from
-  rest-turn h k e =
-      let l : i < length (lines_of from to weight) = omega (arith, lines-length from to weight) in
-      rw (e, add-one i) (ap (costs_from ys) (drop-cons (lines_of from to weight) i no_edge l ∙ ap (λ (g : Edge). g ∷ drop (suc i) (lines_of from to weight)) (line_at from to weight i h)))
+  costs-next : costs_from ys (take (i + 1) edges) ≡ costs_from ys (take i edges) ++ line_costs line.weight (between ys line)
+  costs-next =
+      rw (add-one i, take-suc edges i no_edge h) (costs-join ys (take i edges) (line ∷ []) ∙ ap (λ (l : List ℕ). costs_from ys (take i edges) ++ l) (costs-one ys line))
 
-  pub rest_end : length from ≤ i → costs_rest ys from to weight i ≡ []
-  unfolding costs_from
-  rest_end h = ap (costs_from ys) (drop_of_length-le (lines_of from to weight) {i = i} (omega (arith, lines-length from to weight)))
+  module _ {costs : List ℕ} (so_far : costs ≡ costs_from ys (take i edges)) where
+    -- the costs of line i fit behind those before
+    pub costs_room : length costs + (between ys line + 1) ≤ length (costs_from ys edges)
+    costs_room =
+        omega (
+          arith,
+          ap length so_far,
+          ap length costs-next,
+          length-append (costs_from ys (take i edges)) (line_costs line.weight (between ys line)),
+          line-length line.weight (between ys line),
+          ap length (ap (costs_from ys) (sym (take-append-drop (i + 1) edges)) ∙ costs-join ys (take (i + 1) edges) (drop (i + 1) edges)),
+          length-append (costs_from ys (take (i + 1) edges)) (costs_from ys (drop (i + 1) edges)),
+        )
+
+    pub costs-more : {new : List ℕ} → new ≡ costs ++ line_costs line.weight (between ys line) → new ≡ costs_from ys (take (i + 1) edges)
+    costs-more {new} e = e ∙ ap (λ (l : List ℕ). l ++ line_costs line.weight (between ys line)) so_far ∙ sym costs-next
+
+pub costs-all : (ys : List ℕ) (edges : List Edge) {i : ℕ} {costs : List ℕ} → length edges ≤ i → costs ≡ costs_from ys (take i edges) → costs ≡ costs_from ys edges
+costs-all ys edges {i} h e = e ∙ ap (costs_from ys) (take_all i edges h)
+
+-- a turn over the ends and weights of lines: what it reads is the line there
+module _ (ys : List ℕ) (f : Flat) (i : ℕ) {a b w : ℕ} (h : (i < length f.from.items) × (a ≡ at f.from.items i) × (b ≡ at f.to.items i) × (w ≡ at f.weight.items i)) where
+  here : i < length (flat_edges f)
+  here = omega (arith, h.0, length-edges_of f.from.items f.to.items f.gap.items f.weight.items)
+
+  line-here : get_or (flat_edges f) i no_edge ≡ record { from = a; to = b; gap = at f.gap.items i; weight = w }
+  line-here = edge_at f.from.items f.to.items f.gap.items f.weight.items i h.0 ∙ rw (h.1, h.2, h.3) refl
+
+  pub turn-room : {k : ℕ} → k ≡ at ys b - at ys a - 1 → {costs : List ℕ} → costs ≡ costs_from ys (take i (flat_edges f))
+      → length costs + (k + 1) ≤ length (costs_from ys (flat_edges f))
+  turn-room {k} e {costs} so_far =
+      subst (λ (x : ℕ). length costs + (x + 1) ≤ length (costs_from ys (flat_edges f))) (ap (between ys) line-here ∙ sym e) (costs_room ys (flat_edges f) i here so_far)
+
+  pub turn-more : {k : ℕ} → k ≡ at ys b - at ys a - 1 → {costs new : List ℕ} → costs ≡ costs_from ys (take i (flat_edges f)) → new ≡ costs ++ line_costs w k
+      → new ≡ costs_from ys (take (i + 1) (flat_edges f))
+  turn-more {k} e {costs} so_far more =
+      costs-more ys (flat_edges f) i here so_far (more ∙ ap (λ (l : List ℕ). costs ++ l) (rw (line-here, e) refl))
 
 -- ---- a cost for each segment
 

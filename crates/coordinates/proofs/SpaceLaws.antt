@@ -1,5 +1,5 @@
 -- What is laid of a chart's lines is what the search for x takes, and what it finds is the best x of the chart.
-use mathlib.Core.Path.{◌≡◌, sym, ap, subst, ◌∙◌}
+use mathlib.Core.Path.{◌≡◌, refl, sym, ap, subst, ◌∙◌}
 use mathlib.Core.List.{List, [], ◌∷◌, flatten}
 use Prim.Native.Nat.{ℕ, zero, suc, ◌+◌, ◌*◌, ◌≤◌, suc-le-suc}
 use native.Mathlib.Nat.{zero-lt-suc}
@@ -14,19 +14,18 @@ use Rattle.points.specs.Points.{Segment, point_rows, segments}
 use Rattle.points.specs.Laying.{edges_between, Chart, uppers, lowers}
 use Rattle.points.proofs.PointLaws.{tails, heads, any-points, any-segments, points-length, segments-length}
 use Rattle.points.proofs.NeighbourLaws.{uppers-in, lowers-in, chart-leads}
-use Rattle.fewest.specs.Fewest.{Drawing, drawing_of}
+use Rattle.fewest.specs.Fewest.{drawing_of}
 use Rattle.fewest.proofs.CompleteLaws.{drawing-count, drawing-points}
-use Rattle.drawing.proofs.DrawLaws.{stored-part, stored-within, stored-count}
-use Rattle.ordering.specs.declared.chart.EdgeEnds.{EdgeEnds}
+use Rattle.drawing.proofs.DrawLaws.{stored-part, stored-within}
+use Rattle.flatten.specs.Flat.{Flat}
+use Rattle.flatten.specs.Flat.{flat_edges}
 use Rattle.ordering.specs.Calls.{point_count}
-use Rattle.ordering.specs.Charting.{Split}
-use Rattle.ordering.proofs.ChartLaws.{drawing-of-ends}
-use Rattle.ordering.proofs.SplitLaws.{part-from}
+use Rattle.ordering.proofs.SplitLaws.{flat-tails, flat-heads, flat-weights}
 use Rattle.spacing.specs.Limits.{max_xs, max_segments, inner_factor}
 use Rattle.spacing.specs.Flat.{costed_of, Ordered, Priced, Spaceable, FoundX}
 use Rattle.coordinates.specs.Costs.{chart_costed}
-use Rattle.coordinates.specs.Costing.{costs_from, lines_of, Light, Lined, LinesSpaced}
-use Rattle.coordinates.proofs.CostLaws.{weights, Ends, none, one, All≤, costed-flat, any-costs, costs-low, all-at, all_of}
+use Rattle.coordinates.specs.Costing.{costs_from, Light, Lined, LinesSpaced}
+use Rattle.coordinates.proofs.CostLaws.{weights, Ends, none, one, All≤, costed-flat, costs-low, all-at, all_of}
 use Rattle.coordinates.proofs.LayLaws.{costs-length}
 use Rattle.coordinates.proofs.OrderLaws.{drawing-ordered}
 
@@ -45,9 +44,6 @@ module _ (ys from to weight : List ℕ) (drawn : List Edge) (ef : from ≡ tails
   segments-are : segments ys (edges_between from to) ≡ segments ys drawn
   segments-are = rw (ef, et) (any-segments ys drawn)
 
-  costs-same : costs_from ys (lines_of from to weight) ≡ costs_from ys drawn
-  costs-same = rw (ef, et, ew) (any-costs ys drawn)
-
   module _ (chart : Chart ys from to) where
     ends_in : Ends (length ys) drawn
     ends_in = ends_of (length ys) drawn (subst (Below (length ys)) ef chart.from_in) (subst (Below (length ys)) et chart.to_in)
@@ -64,7 +60,7 @@ module _ (ys from to weight : List ℕ) (drawn : List Edge) (ef : from ≡ tails
       few_segments =
           omega (arith, segments-length ys (length ys) drawn, points-length ys drawn, ap length ef, length-map drawn (λ (e : Edge). e.from))
 
-      module _ (light : Light from weight) where
+      module _ (light : Light weight) where
         cost-ends : Below (max_added * inner_factor + 1) (costs_from ys drawn)
         cost-ends =
             record {
@@ -107,36 +103,37 @@ row_zeros = replicate max_xs 0
 abbrev segment_zeros : List ℕ
 segment_zeros = replicate max_segments 0
 
-module _ (ys : List ℕ) (ends : EdgeEnds) (order : List ℕ) (h : Lined ys ends order) where
+module _ (ys : List ℕ) (ends : Flat) (order : List ℕ) (h : Lined ys ends order) where
+  abbrev drawn : List Edge
+  drawn = flat_edges ends
+
   abbrev from : List ℕ
-  from = take ends.count ends.from
+  from = ends.from.items
 
   abbrev to : List ℕ
-  to = take ends.count ends.to
+  to = ends.to.items
 
-  abbrev weight : List ℕ
-  weight = take ends.count ends.weight
+  ef : from ≡ tails drawn
+  ef = flat-tails ends refl
 
-  from-few : length from ≤ max_edges
-  from-few = omega (arith, part-from h.split, h.split.few)
+  et : to ≡ heads drawn
+  et = flat-heads ends refl
+
+  ew : ends.weight.items ≡ weights drawn
+  ew = flat-weights ends refl
 
   points-few : length (point_rows ys (edges_between from to)) ≤ max_xs
-  points-few = rw (points_are ys from to weight h.drawn h.split.tails h.split.heads h.split.weights) h.few
+  points-few = rw (points_are ys from to ends.weight.items drawn ef et ew) h.few
 
-  segments-few : length (segments ys h.drawn) ≤ max_segments
-  segments-few = few_segments ys from to weight h.drawn h.split.tails h.split.heads h.split.weights h.chart from-few h.few
+  segments-few : length (segments ys drawn) ≤ max_segments
+  segments-few = few_segments ys from to ends.weight.items drawn ef et ew h.chart h.few_lines h.few
 
   pub rows_room : length (point_rows ys (edges_between from to)) ≤ length row_zeros
   rows_room = omega (arith, points-few, length-replicate {A = ℕ} max_xs 0)
 
   pub segments-room : length (segments ys (edges_between from to)) ≤ length segment_zeros
   segments-room =
-      omega (
-        arith,
-        segments-few,
-        ap length (segments-are ys from to weight h.drawn h.split.tails h.split.heads h.split.weights),
-        length-replicate {A = ℕ} max_segments 0,
-      )
+      omega (arith, segments-few, ap length (segments-are ys from to ends.weight.items drawn ef et ew), length-replicate {A = ℕ} max_segments 0)
 
   uppers-room : length (uppers (segments ys (edges_between from to))) ≤ length segment_zeros
   uppers-room = omega (arith, segments-room, length-map (segments ys (edges_between from to)) (λ (s : Segment). s.upper))
@@ -144,84 +141,44 @@ module _ (ys : List ℕ) (ends : EdgeEnds) (order : List ℕ) (h : Lined ys ends
   lowers-room : length (lowers (segments ys (edges_between from to))) ≤ length segment_zeros
   lowers-room = omega (arith, segments-room, length-map (segments ys (edges_between from to)) (λ (s : Segment). s.lower))
 
-  pub costs-room : length (costs_from ys (lines_of from to weight)) ≤ length segment_zeros
+  pub costs-room : length (costs_from ys drawn) ≤ max_segments
   unfolding segments
-  costs-room =
-      omega (
-        arith,
-        segments-few,
-        ap length (costs-same ys from to weight h.drawn h.split.tails h.split.heads h.split.weights),
-        costs-length ys (length ys) h.drawn,
-        length-replicate {A = ℕ} max_segments 0,
-      )
+  costs-room = omega (arith, segments-few, costs-length ys (length ys) drawn)
 
-  module _ {row upper lower cost : List ℕ} {p s c : ℕ} (sr : Stored row_zeros 0 (point_rows ys (edges_between from to)) row p)
+  module _ {row upper lower cost : List ℕ} {p s : ℕ} (sr : Stored row_zeros 0 (point_rows ys (edges_between from to)) row p)
       (su : Stored segment_zeros 0 (uppers (segments ys (edges_between from to))) upper s) (sl : Stored segment_zeros 0 (lowers (segments ys (edges_between from to))) lower s)
-      (sc : Stored segment_zeros 0 (costs_from ys (lines_of from to weight)) cost c) where
-    -- the edges that the lists stand for
-    module _ (drawn : List Edge) (split : Split drawn ends.count ends.from ends.to ends.weight) where
-      row-part : take p row ≡ point_rows ys drawn
-      row-part = stored-part sr rows_room ∙ points_are ys from to weight drawn split.tails split.heads split.weights
+      (sc : cost ≡ costs_from ys drawn) where
+    row-part : take p row ≡ point_rows ys drawn
+    row-part = stored-part sr rows_room ∙ points_are ys from to ends.weight.items drawn ef et ew
 
-      segments-same : segments ys (edges_between from to) ≡ segments ys drawn
-      segments-same = segments-are ys from to weight drawn split.tails split.heads split.weights
+    segments-same : segments ys (edges_between from to) ≡ segments ys drawn
+    segments-same = segments-are ys from to ends.weight.items drawn ef et ew
 
-      upper-part : take s upper ≡ uppers (segments ys drawn)
-      upper-part = stored-part su uppers-room ∙ ap uppers segments-same
+    upper-part : take s upper ≡ uppers (segments ys drawn)
+    upper-part = stored-part su uppers-room ∙ ap uppers segments-same
 
-      lower-part : take s lower ≡ lowers (segments ys drawn)
-      lower-part = stored-part sl lowers-room ∙ ap lowers segments-same
+    lower-part : take s lower ≡ lowers (segments ys drawn)
+    lower-part = stored-part sl lowers-room ∙ ap lowers segments-same
 
-      costs-of : costs_from ys (lines_of from to weight) ≡ costs_from ys drawn
-      costs-of = costs-same ys from to weight drawn split.tails split.heads split.weights
+    costed-are : costed_of (take s upper) (take s lower) cost ≡ chart_costed ys drawn
+    costed-are = rw (upper-part, lower-part, sc) (costed-flat ys drawn (ends_in ys from to ends.weight.items drawn ef et ew h.chart))
 
-      -- there is a cost for each segment
-      counts_same : s ≡ c
-      unfolding segments
-      counts_same =
-          omega (
-            arith,
-            stored-count su uppers-room,
-            ap length upper-part,
-            length-map (segments ys drawn) (λ (g : Segment). g.upper),
-            stored-count sc costs-room,
-            ap length (stored-part sc costs-room),
-            ap length costs-of,
-            costs-length ys (length ys) drawn,
-          )
+    ordered : Ordered (drawing_of ys drawn).order (take p row) order
+    ordered = rw (row-part, h.order_is) (drawing-ordered ys drawn)
 
-      cost-part : take s cost ≡ costs_from ys drawn
-      cost-part = ap (λ (k : ℕ). take k cost) counts_same ∙ stored-part sc costs-room ∙ costs-of
+    points-count : length order ≡ point_count ys drawn
+    points-count = ap length h.order_is ∙ drawing-count ys drawn
 
-      order-of : order ≡ flatten (drawing_of ys drawn).order
-      order-of =
-          h.order_is
-          ∙ ap (λ (d : Drawing). flatten d.order) (sym (drawing-is h.drawn h.split) ∙ drawing-is drawn split)
-        where
-          drawing-is : (es : List Edge) → Split es ends.count ends.from ends.to ends.weight → drawing_of ys (edges_between from to) ≡ drawing_of ys es
-          drawing-is es k = rw (k.tails, k.heads) (drawing-of-ends ys es)
-
-      costed-are : costed_of (take s upper) (take s lower) (take s cost) ≡ chart_costed ys drawn
-      costed-are =
-          rw (upper-part, lower-part, cost-part)
-          (costed-flat ys drawn (ends_in ys from to weight drawn split.tails split.heads split.weights h.chart))
-
-      ordered : Ordered (drawing_of ys drawn).order (take p row) order
-      ordered = rw (row-part, order-of) (drawing-ordered ys drawn)
-
-      points-count : length order ≡ point_count ys drawn
-      points-count = ap length order-of ∙ drawing-count ys drawn
-
-    pub spaceable : Spaceable order (take p row) (take s upper) (take s lower) (take s cost)
+    pub spaceable : Spaceable order (take p row) (take s upper) (take s lower) cost
     spaceable =
-        rw (order-of h.drawn h.split, row-part h.drawn h.split, upper-part h.drawn h.split, lower-part h.drawn h.split, cost-part h.drawn h.split)
-        (lists-spaceable ys from to weight h.drawn h.split.tails h.split.heads h.split.weights h.chart from-few h.few h.light)
+        rw (h.order_is, row-part, upper-part, lower-part, sc)
+        (lists-spaceable ys from to ends.weight.items drawn ef et ew h.chart h.few_lines h.few h.light)
 
-    pub lines-spaced : (xs : List ℕ) → FoundX order (take p row) (take s upper) (take s lower) (take s cost) xs → LinesSpaced ys ends order xs
+    pub lines-spaced : (xs : List ℕ) → FoundX order (take p row) (take s upper) (take s lower) cost xs → LinesSpaced ys ends order xs
     lines-spaced xs f =
         record {
-          best = λ drawn split. rw (points-count drawn split, costed-are drawn split) at (f.best (drawing_of ys drawn).order (ordered drawn split));
-          is = λ drawn split. rw (points-count drawn split, costed-are drawn split) at (f.is (drawing_of ys drawn).order (ordered drawn split));
+          best = rw (points-count, costed-are) at (f.best (drawing_of ys drawn).order ordered);
+          is = rw (points-count, costed-are) at (f.is (drawing_of ys drawn).order ordered);
           low = f.low;
           long = f.long;
         }
@@ -235,6 +192,3 @@ module _ (ys : List ℕ) (ends : EdgeEnds) (order : List ℕ) (h : Lined ys ends
 
     pub lower-fits : s ≤ length lower
     lower-fits = stored-within sl lowers-room
-
-    pub cost-fits : s ≤ length cost
-    cost-fits = omega (arith, counts_same h.drawn h.split, stored-within sc costs-room)

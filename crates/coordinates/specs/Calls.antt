@@ -1,9 +1,10 @@
 -- The x of a chart: what the call answers, and what its buffer holds at its end.
-use Rattle.std.specs.Prelude.{◌≡◌, cond, List, [], ◌∷◌, ℕ, ◌<◌, leb, length, take}
+use Rattle.std.specs.Prelude.{◌≡◌, cond, List, [], ◌∷◌, ℕ, ◌<◌, leb, length, take, Result}
 use Rattle.graph.specs.declared.Edge.{Edge}
 use Rattle.graph.specs.Rows.{at}
+use Rattle.outcome.specs.declared.Refusal.{Refusal}
 use Rattle.outcome.specs.declared.Refusal.TheVariants.{ShortBuffer, LargeChart}
-use Rattle.outcome.specs.Refusal.{Outcome, done, refused, then_do, demand, numbers_of, refusal_in}
+use Rattle.outcome.specs.Refusal.{Outcome, done, refused, then_do, demand, numbers_of, answered, refusal_in}
 use Rattle.table.specs.Table.{contents_of, read}
 use Rattle.rows.specs.Answers.{rows_by}
 use Rattle.layering.specs.Calls.{rows_of_table}
@@ -13,8 +14,6 @@ use Rattle.spacing.specs.Limits.{max_xs}
 use Rattle.spacing.specs.Coordinates.{BestX}
 use Rattle.spacing.specs.Trial.{xs_of}
 use Rattle.coordinates.specs.Costs.{chart_costed}
-use Rattle.coordinates.specs.declared.XsAnswer.{XsAnswer}
-use Rattle.coordinates.specs.declared.XsAnswer.TheVariants.{Spaced, Refused}
 
 -- ---- the x of a chart
 
@@ -59,9 +58,8 @@ unfoldable pub xs_call : List ℕ → List ℕ → XsEnd
 xs_call bytes old = xs_end (xs_of_table bytes) old
 
 -- what the code answers, in numbers
-abbrev pub xs_numbers : XsAnswer → List ℕ
-xs_numbers (Spaced points) = 0 ∷ points ∷ []
-xs_numbers (Refused r) = numbers_of r
+abbrev pub xs_numbers : Result ℕ Refusal → List ℕ
+xs_numbers r = answered (λ points. points ∷ []) r
 
 -- ---- nobody can do better
 

@@ -1,16 +1,17 @@
 -- What the functions behind the x of a chart ask for and answer.
 use Rattle.std.specs.Prelude.{◌≡◌, cond, ℕ, suc, ◌*◌, ◌≤◌, ◌<◌, eqb, length, take}
-use mathlib.Core.List.{List, [], ◌∷◌, ◌++◌, flatten, map, tail}
+use mathlib.Core.List.{List, [], ◌∷◌, ◌++◌, flatten, map}
 use Rattle.graph.specs.declared.Edge.{Edge}
 use Rattle.graph.specs.Rows.{at}
 use Rattle.graph.specs.Search.{run}
 use Rattle.points.specs.Points.{between}
 use Rattle.points.specs.Laying.{Chart}
 use Rattle.fewest.specs.Fewest.{drawing_of}
+use Rattle.table.specs.Limits.{max_edges}
 use Rattle.merging.specs.Merging.{max_added}
-use Rattle.ordering.specs.declared.chart.EdgeEnds.{EdgeEnds}
+use Rattle.flatten.specs.Flat.{Flat}
+use Rattle.flatten.specs.Flat.{flat_edges}
 use Rattle.ordering.specs.Calls.{point_count}
-use Rattle.ordering.specs.Charting.{Split}
 use Rattle.spacing.specs.Limits.{max_xs, max_nodes, plain_factor, end_factor, inner_factor}
 use Rattle.coordinates.specs.Calls.{ChartX, chart_xs}
 
@@ -27,28 +28,21 @@ unfoldable pub costs_from : List ℕ → List Edge → List ℕ
 costs_from ys [] = []
 costs_from ys (e ∷ edges) = line_costs e.weight (between ys e) ++ costs_from ys edges
 
--- edges by their ends and weights alone: gaps play no part in costs
-unfoldable pub lines_of : List ℕ → List ℕ → List ℕ → List Edge
-lines_of [] to weight = []
-lines_of (a ∷ from) to weight = record { from = a; to = at to 0; gap = 0; weight = at weight 0 } ∷ lines_of from (tail to) (tail weight)
-
--- one weight an edge, none heavier than all edges of a table together
-pub record Light (from weight : List ℕ) : Type 0 where
-  pub long : length weight ≡ length from
+-- weights of which none is more than all edges of a table have together
+pub record Light (weight : List ℕ) : Type 0 where
   pub low : (i : ℕ) → i < length weight → at weight i ≤ max_added
 
--- Lines between steps in the rows ys, in the first entries of three arrays, and the order that their chart is drawn in.
-pub record Lined (ys : List ℕ) (ends : EdgeEnds) (order : List ℕ) : Type 0 where
-  pub drawn : List Edge
-  pub split : Split drawn ends.count ends.from ends.to ends.weight
-  pub chart : Chart ys (take ends.count ends.from) (take ends.count ends.to)
-  pub light : Light (take ends.count ends.from) (take ends.count ends.weight)
-  pub order_is : order ≡ flatten (drawing_of ys drawn).order
-  pub few : point_count ys drawn ≤ max_xs
+-- lines between steps in the rows ys, and the order that their chart is drawn in
+pub record Lined (ys : List ℕ) (ends : Flat) (order : List ℕ) : Type 0 where
+  pub chart : Chart ys ends.from.items ends.to.items
+  pub few_lines : length ends.from.items ≤ max_edges
+  pub light : Light ends.weight.items
+  pub order_is : order ≡ flatten (drawing_of ys (flat_edges ends)).order
+  pub few : point_count ys (flat_edges ends) ≤ max_xs
 
--- The best x of their chart in the first entries of an array, whatever edges have these ends and weights; each is below the number of points.
-pub record LinesSpaced (ys : List ℕ) (ends : EdgeEnds) (order xs : List ℕ) : Type 0 where
-  pub best : (drawn : List Edge) → Split drawn ends.count ends.from ends.to ends.weight → ChartX ys drawn (take (point_count ys drawn) xs)
-  pub is : (drawn : List Edge) → Split drawn ends.count ends.from ends.to ends.weight → chart_xs ys drawn ≡ take (point_count ys drawn) xs
+-- the best x of their chart in the first entries of an array; each is below the number of points
+pub record LinesSpaced (ys : List ℕ) (ends : Flat) (order xs : List ℕ) : Type 0 where
+  pub best : ChartX ys (flat_edges ends) (take (point_count ys (flat_edges ends)) xs)
+  pub is : chart_xs ys (flat_edges ends) ≡ take (point_count ys (flat_edges ends)) xs
   pub low : (p : ℕ) → p < length order → at xs p < length order
   pub long : length xs ≡ max_nodes

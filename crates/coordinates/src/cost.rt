@@ -1,12 +1,15 @@
 // What each segment of a chart costs for a unit of its horizontal distance: the weight of its line times a factor.
-ghost use Rattle.std.specs.Prelude.{◌≡◌, ◌+◌, ◌≤◌, ◌<◌, length};
-ghost use Rattle.buffers.specs.Written.{Stored};
+ghost use Rattle.std.specs.Prelude.{◌≡◌, ◌++◌, ◌+◌, ◌≤◌, ◌<◌, length};
 ghost use Rattle.points.specs.Laying.{Chart};
 ghost use Rattle.merging.specs.Merging.{max_added};
-ghost use Rattle.coordinates.specs.Costing.{factor_at, line_costs, lines_of, costs_from, Light};
+ghost use Rattle.flatten.specs.Flat.{flat_edges};
+ghost use Rattle.spacing.specs.Limits.{max_segments};
+ghost use Rattle.coordinates.specs.Costing.{factor_at, line_costs, costs_from, Light};
 
+use arrayvec::ArrayVec;
+use flatten::Flat;
 use points::count_between;
-use spacing::limits::{END_FACTOR, INNER_FACTOR, PLAIN_FACTOR};
+use spacing::limits::{END_FACTOR, INNER_FACTOR, MAX_SEGMENTS, PLAIN_FACTOR};
 
 // The factor of segment j of a line with k dummies: the first starts at a step, the last ends at one, and all else are dummies.
 fn factor_at(j: usize, k: usize) -> usize
@@ -24,37 +27,28 @@ fn factor_at(j: usize, k: usize) -> usize
     INNER_FACTOR
 }
 
-// The costs of the segments of a line with k dummies, from entry `at` on. Answers where the next line's start.
-fn cost_line(weight: usize, k: usize, cost: &mut [usize], at: usize) -> usize
+// The costs of the segments of a line with k dummies, behind those before. By number, on which the factor depends.
+fn cost_line(weight: usize, k: usize, costs: &mut ArrayVec<usize, MAX_SEGMENTS>)
     requires weight_le_max_added { weight ≤ max_added }
-    requires k_in_bounds { at + k < length cost.old }
-    ensures { Stored cost.old at (line_costs weight k) cost.new result }
+    requires room { length costs.old.items + k < max_segments }
+    ensures { costs.new.items ≡ costs.old.items ++ line_costs weight k }
 {
-    let mut s = at;
     for j in 0..k + 1 {
-        cost[s] = weight * factor_at(j, k);
-        s += 1;
+        costs.push(weight * factor_at(j, k));
     }
-    s
 }
 
-// Those of all lines, by line and then downwards, as the segments are laid. Answers how many there are.
-pub fn lay_costs(
-    rows: &[usize],
-    from: &[usize],
-    to: &[usize],
-    weight: &[usize],
-    cost: &mut [usize],
-) -> usize
-    requires chart { Chart rows.now from.now to.now }
-    requires light { Light from.now weight.now }
-    requires weight_in_bounds { length (costs_from rows.now (lines_of from.now to.now weight.now)) ≤ length cost.old }
-    ensures { Stored cost.old 0 (costs_from rows.now (lines_of from.now to.now weight.now)) cost.new result }
+// Those of all lines, by line and then downwards, as the segments are laid.
+pub fn lay_costs(rows: &[usize], ends: &Flat) -> ArrayVec<usize, MAX_SEGMENTS>
+    requires chart { Chart rows.now ends.now.from.items ends.now.to.items }
+    requires light { Light ends.now.weight.items }
+    requires room { length (costs_from rows.now (flat_edges ends.now)) ≤ max_segments }
+    ensures { result.items ≡ costs_from rows.now (flat_edges ends.now) }
 {
-    let mut s = 0;
-    for i in 0..from.len() {
-        let k = count_between(rows, from[i], to[i]);
-        s = cost_line(weight[i], k, cost, s);
+    let mut costs = ArrayVec::new();
+    for ((&tail, &head), &weight) in ends.from.iter().zip(&ends.to).zip(&ends.weight) {
+        let k = count_between(rows, tail, head);
+        cost_line(weight, k, &mut costs);
     }
-    s
+    costs
 }

@@ -14,45 +14,27 @@ use crate::space::space_lines;
 use buffers::store_u16;
 use ordering::chart::merge_ends;
 use ordering::chart_table;
-use outcome::{Refusal, Verdict};
+use outcome::Refusal;
 use spacing::limits::MAX_XS;
 
-// The x are in the buffer, one a point, so many; or why they are not.
-#[derive(Drop)]
-pub enum XsAnswer {
-    Spaced(usize),
-    Refused(Refusal),
-}
-
-// The x of each point of a table's chart, by the point's number, to the first entries of a buffer. Refuses as the whole chart does, then more
-// points than get an x, then a buffer with fewer entries than it is to get.
-pub fn find_xs(bytes: &[u8], xs: &mut [u16]) -> XsAnswer
+// The x of each point of a table's chart, by the point's number, to the first entries of a buffer, and how many these are. Refuses as the
+// whole chart does, then more points than get an x, then a buffer with fewer entries than it is to get.
+pub fn find_xs(bytes: &[u8], xs: &mut [u16]) -> Result<usize, Refusal>
     ensures result_value { xs_numbers result ≡ (xs_call bytes.now xs.old).numbers }
     ensures xs_after { xs.new ≡ (xs_call bytes.now xs.old).xs }
     ensures xs_best { XsBest bytes.now (xs_numbers result) xs.new }
 {
-    let charted = chart_table(bytes);
-    let table = charted.table;
-    let found = charted.found;
-    let verdict = found.verdict;
-    match verdict {
-        Verdict::Refused(f) => XsAnswer::Refused(f),
-        Verdict::Accepted => {
-            let points = found.points;
-            if MAX_XS < points {
-                return XsAnswer::Refused(Refusal::LargeChart);
-            }
-            if xs.len() < points {
-                return XsAnswer::Refused(Refusal::ShortBuffer);
-            }
-            let edges = table.edges;
-            let turned = charted.turned;
-            let ends = merge_ends(edges, turned, table.m);
-            let rows = found.rows;
-            let order = found.order;
-            let best = space_lines(&rows[..table.n], ends, &order[..points]);
-            store_u16(&best, points, xs);
-            XsAnswer::Spaced(points)
-        }
+    let charted = chart_table(bytes)?;
+    let chart = charted.chart;
+    let points = chart.order.len();
+    if MAX_XS < points {
+        return Err(Refusal::LargeChart);
     }
+    if xs.len() < points {
+        return Err(Refusal::ShortBuffer);
+    }
+    let ends = merge_ends(&charted.table.edges, &charted.turned);
+    let best = space_lines(&chart.rows, &ends, &chart.order);
+    store_u16(&best, points, xs);
+    Ok(points)
 }

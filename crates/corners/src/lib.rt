@@ -11,14 +11,14 @@ const X_WIDTH: f32 = 12.5;
 const ROW_HEIGHT: f32 = 7.25;
 
 // A place on the screen, from the left and from the top.
-#[derive(Drop)]
+#[derive(Clone, Copy, Debug, PartialEq)]
 pub struct Corner {
     pub x: f32,
     pub y: f32,
 }
 
 // What a pen does next: it goes to a corner without drawing, or it draws a line to it.
-#[derive(Drop)]
+#[derive(Clone, Copy, Debug, PartialEq)]
 pub enum Stroke {
     Move(Corner),
     Line(Corner),
@@ -27,7 +27,8 @@ pub enum Stroke {
 // The corner of a point.
 fn place_corner(x: usize, row: usize) -> Corner
     requires { (x < max_place) × (row < max_place) }
-    ensures { result ≡ corner_of x row }
+    ensures value { result ≡ corner_of x row }
+    ensures stands { Stands result x row }
 {
     Corner {
         x: (x as f32) * X_WIDTH,

@@ -3,12 +3,13 @@ use mathlib.Core.Path.{◌≡◌, ap}
 use mathlib.Core.List.{List}
 use Prim.Native.Nat.{ℕ, suc, ◌+◌, ◌*◌, ◌-◌, ◌/◌, min, max, ◌≤◌, ◌<◌}
 use native.Mathlib.Omega.{arith}
-use lib.ListN.{length, set, replicate, length-set}
+use lib.ListN.{length, take, drop, set, replicate, length-set}
 use lib.Seq.{get_or-set_other}
+use Rattle.std.specs.List.{sum}
 use Rattle.graph.specs.Rows.{at}
 use Rattle.buffers.proofs.ListLaws.{zero-at}
 use Rattle.crossings.specs.Tally.{range, all_counted, right_of, block_size, Blocked, NoneBehind}
-use Rattle.crossings.proofs.TallyLaws.{range_split, range-past, range-cut, right-most, blocks-hold}
+use Rattle.crossings.proofs.TallyLaws.{range_split, range-sum, range-past, range-cut, right-most, blocks-hold}
 
 -- nothing counted yet
 pub behind-zero : (n : ℕ) → NoneBehind (replicate n 0) 0
@@ -67,16 +68,17 @@ module _ {counts : List ℕ} {last : ℕ} (n : NoneBehind counts last) where
           )
 
       -- the block of l and that of `last`; the rest of the block is taken no further than `last`
-      pub near-far : {end : ℕ} → end ≡ min (l / block_size * block_size + block_size) (last + 1)
-          → range counts (l + 1) (end - (l + 1)) + range blocks (l / block_size + 1) (last / block_size + 1 - (l / block_size + 1)) ≡ right_of counts l
-      near-far {end} e =
-          omega (
-            arith,
-            range-cut counts (last + 1) from (l + 1) (l / block_size * block_size + block_size) end (omega arith) e,
-            parts-right (l / block_size) (last / block_size + 1) (omega arith) (omega arith) (omega arith) (omega (arith, last_block)),
-          )
+      module _ {end : ℕ} (e : end ≡ min (l / block_size * block_size + block_size) (last + 1)) where
+        pub near-far : sum (take (end - (l + 1)) (drop (l + 1) counts)) + sum (take (last / block_size + 1 - (l / block_size + 1)) (drop (l / block_size + 1) blocks)) ≡ right_of counts l
+        near-far =
+            omega (
+              arith,
+              range-sum counts (l + 1) (end - (l + 1)) (omega (arith, last-inside)),
+              range-sum blocks (l / block_size + 1) (last / block_size + 1 - (l / block_size + 1)) (omega (arith, last_block)),
+              range-cut counts (last + 1) from (l + 1) (l / block_size * block_size + block_size) end (omega arith) e,
+              parts-right (l / block_size) (last / block_size + 1) (omega arith) (omega arith) (omega arith) (omega (arith, last_block)),
+            )
 
-      -- so each of the two parts is at most the whole
-      pub parts-most : {end : ℕ} → end ≡ min (l / block_size * block_size + block_size) (last + 1)
-          → range counts (l + 1) (end - (l + 1)) + range blocks (l / block_size + 1) (last / block_size + 1 - (l / block_size + 1)) ≤ all_counted counts
-      parts-most e = omega (arith, near-far e, right-most counts l)
+        -- so each of the two parts is at most the whole
+        pub parts-most : sum (take (end - (l + 1)) (drop (l + 1) counts)) + sum (take (last / block_size + 1 - (l / block_size + 1)) (drop (l / block_size + 1) blocks)) ≤ all_counted counts
+        parts-most = omega (arith, near-far, right-most counts l)

@@ -5,12 +5,13 @@ use mathlib.Core.List.{List}
 use Prim.Native.Nat.{ℕ, zero, suc, ◌+◌, ◌*◌, ◌-◌, ◌/◌, min, ◌≤◌, ◌<◌}
 use native.Mathlib.Decide.{ℕ_discrete, dec_lt}
 use native.Mathlib.Nat.{zero-add, add-zero}
-use native.Mathlib.Numerals.{add-one}
 use native.Mathlib.Omega.{arith}
 use borrow.Author.Tests.{ltb-true, ltb-false}
 use lib.Dec.{ltb}
-use lib.ListN.{length, set, replicate, length-replicate, length-set, get_or-eq_default}
-use lib.Seq.{get_or-set_same, get_or-set_other}
+use lib.ListN.{length, take, drop, set, replicate, length-replicate, length-set, get_or-eq_default}
+use lib.Seq.{drop-cons, get_or-set_same, get_or-set_other}
+use Rattle.std.specs.List.{sum}
+use Rattle.std.proofs.lemmas.List.Sums.{sum_by-cons}
 use Rattle.graph.specs.Rows.{at}
 use Rattle.buffers.proofs.ListLaws.{zero-at}
 use Rattle.crossings.specs.Tally.{range, all_counted, right_of, block_size, Blocked}
@@ -92,31 +93,13 @@ range-one s a = omega arith
 pub entry-most : (s : List ℕ) (a : ℕ) → at s a ≤ all_counted s
 entry-most s a = omega (arith, part-most s a 1, range-one s a)
 
--- the loop that adds up a part
-pub record Summed (s : List ℕ) (from to sum i : ℕ) : Type 0 where
-  pub after : from ≤ i
-  pub within : i ≤ to
-  pub so_far : sum + range s i (to - i) ≡ range s from (to - from)
-
-pub summed-none : (s : List ℕ) {from to : ℕ} → from ≤ to → Summed s from to 0 from
-summed-none s h = record { after = omega arith; within = h; so_far = omega arith }
-
-module _ {s : List ℕ} {from to sum i : ℕ} (l : Summed s from to sum i) where
-  rest : i < to → range s i (to - i) ≡ at s i + range s (i + 1) (to - (i + 1))
-  unfolding range
-  rest h =
-      let e : to - i ≡ suc (to - (i + 1)) = omega arith in
-      ap (λ (x : ℕ). range s i x) e ∙ ap (λ (x : ℕ). at s i + range s x (to - (i + 1))) (sym (add-one i))
-
-  pub summed-more : i < to → Summed s from to (sum + at s i) (i + 1)
-  summed-more h = record { after = omega (arith, l.after); within = omega arith; so_far = omega (arith, l.so_far, rest h) }
-
-  pub summed-room : i < to → sum + at s i ≤ range s from (to - from)
-  summed-room h = omega (arith, l.so_far, rest h)
-
-  pub summed-end : to ≤ i → sum ≡ range s from (to - from)
-  unfolding range
-  summed-end h = let e : to - i ≡ 0 = omega arith in omega (arith, l.so_far, ap (λ (x : ℕ). range s i x) e)
+-- a part of a list, added up
+pub range-sum : (s : List ℕ) (a n : ℕ) → a + n ≤ length s → range s a n ≡ sum (take n (drop a s))
+unfolding range
+range-sum s a zero h = refl
+range-sum s a (suc n) h =
+    let on : sum (take n (drop (suc a) s)) ≡ range s (suc a) n = sym (range-sum s (suc a) n (omega arith)) in
+    rw (drop-cons s a 0 (omega arith)) (omega (arith, on, sum_by-cons (λ (x : ℕ). x) (at s a) (take n (drop (suc a) s))))
 
 -- ---- blocks
 

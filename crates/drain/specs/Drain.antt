@@ -1,5 +1,5 @@
 -- How supply and demand are brought to nothing.
-use Rattle.std.specs.Prelude.{◌≡◌, List, ℕ, ◌≤◌, ◌<◌, length, set, drop}
+use Rattle.std.specs.Prelude.{◌≡◌, Option, Some, None, List, ℕ, ◌≤◌, ◌<◌, length, set, drop}
 use Rattle.graph.specs.Rows.{at}
 use Rattle.relaxation.specs.Limits.{calm_limit, peak_limit}
 use Rattle.relaxation.specs.Low.{RowsLow}
@@ -60,12 +60,12 @@ pub record Calm (from to gap g : List ℕ) (n : ℕ) (old y flow supply demand r
   pub long : length y ≡ length old
   pub rest : drop n y ≡ drop n old
 
--- of a node found so far, best, and a node v with an amount to send, one that has something to send; at n none is found
-pub data Picks (n best v amount r : ℕ) : Type 0 where
-  same : r ≡ best → (n ≤ best → amount ≡ 0) → Picks n best v amount r
-  other : r ≡ v → 0 < amount → Picks n best v amount r
+-- of a node found so far, best, and a node v with an amount to send, one that has something to send
+pub data Picks (best : Option ℕ) (v amount : ℕ) (r : Option ℕ) : Type 0 where
+  same : r ≡ best → (best ≡ None → amount ≡ 0) → Picks best v amount r
+  other : r ≡ Some v → 0 < amount → Picks best v amount r
 
--- Of the first k nodes r has something to send, or r is at least n and none of them has
-pub record NextSupply (n k : ℕ) (supply : List ℕ) (r : ℕ) : Type 0 where
-  pub none : n ≤ r → (v : ℕ) → v < k → at supply v ≡ 0
-  pub some : r < n → 0 < at supply r
+-- of the first k nodes the one found has something to send; where none is found none of them has
+pub record NextSupply (k : ℕ) (supply : List ℕ) (r : Option ℕ) : Type 0 where
+  pub none : r ≡ None → (v : ℕ) → v < k → at supply v ≡ 0
+  pub some : (s : ℕ) → r ≡ Some s → (s < k) × (0 < at supply s)

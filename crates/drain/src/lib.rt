@@ -5,158 +5,106 @@ ghost use Rattle.std.specs.Prelude.{◌≡◌, ◌<◌, length};
 ghost use Rattle.transport.specs.Flow.{Flows};
 ghost use Rattle.relaxation.specs.Low.{RowsLow};
 ghost use Rattle.drain.specs.Drain.{Sendable, Sent, Drained, Picks, NextSupply, DrainedAll};
-ghost use Rattle.relaxation.specs.Limits.{weight_limit, calm_limit};
-ghost use Rattle.buffers.specs.Lists.{sum};
-ghost use Rattle.relaxation.specs.Network.{Shaped, Narrow, Lengths};
+ghost use Rattle.relaxation.specs.Limits.{calm_limit};
+ghost use Rattle.relaxation.specs.Network.{Lengths};
 
 use augment::push::push_flow;
 use augment::tree::{grow_tree, plant_root};
-use buffers::{read_entry, smaller_of, take_at};
 use relaxation::low::lower_rows;
+use relaxation::net::Net;
+use relaxation::scratch::{Hints, Tree};
+use transport::stock::Stock;
 
 // As much as can come to node t and t wants, sent there from node s over the tree; what s has still to send.
+// Rows and flow are parameters of their own, since of a slice in a struct the caller no longer knows what it holds.
 fn send_flow(
-    from: &[usize],
-    to: &[usize],
-    gap: &[usize],
-    weight: &[usize],
-    n: usize,
+    net: &Net<'_>,
     y: &mut [usize],
     flow: &mut [usize],
-    rank: &[usize],
-    parent: &[usize],
-    capacity: &[usize],
-    supply: &mut [usize],
-    demand: &mut [usize],
+    tree: &Tree<'_>,
+    stock: &mut Stock<'_>,
     s: usize,
     t: usize,
 ) -> usize
-    requires shaped { Shaped from.now to.now gap.now n }
-    requires weight_bound { sum weight.now < weight_limit }
-    requires narrow { Narrow gap.now n }
-    requires s_lt_n { s < n }
-    requires sendable { Sendable from.now to.now gap.now weight.now n s t y.old flow.old rank.now parent.now capacity.now supply.old demand.old }
-    ensures { Sent from.now to.now gap.now weight.now n s y.old supply.old y.new flow.new supply.new demand.new result }
+    requires s_lt_n { s < net.now.arcs.n }
+    requires sendable { Sendable net.now.arcs.from.now net.now.arcs.to.now net.now.arcs.gap.now net.now.weight.now net.now.arcs.n s t y.old flow.old tree.now.rank.now tree.now.parent.now tree.now.capacity.now stock.old.supply.now stock.old.demand.now }
+    ensures { Sent net.now.arcs.from.now net.now.arcs.to.now net.now.arcs.gap.now net.now.weight.now net.now.arcs.n s y.old stock.old.supply.now y.new flow.new stock.new.supply.now stock.new.demand.now result }
 {
-    let d = smaller_of(capacity[t], demand[t]);
-    push_flow(
-        from, to, gap, flow, weight, supply, demand, n, y, rank, parent, capacity, s, t, d,
-    );
-    let left = take_at(supply, s, d);
-    take_at(demand, t, d);
-    lower_rows(from, to, gap, flow, n, y);
+    let d = tree.capacity[t].min(stock.demand[t]);
+    push_flow(&net.arcs, y, flow, tree, s, t, d);
+    let left = stock.supply[s] - d;
+    stock.supply[s] = left;
+    stock.demand[t] -= d;
+    lower_rows(&net.arcs, flow, y);
     left
 }
 
 // What node s has to send, sent: a tree from s to a node with demand, and a push along it, until s has no supply.
+// Rows and flow are parameters of their own here too.
 pub fn drain_node(
-    from: &[usize],
-    to: &[usize],
-    gap: &[usize],
-    weight: &[usize],
-    n: usize,
+    net: &Net<'_>,
     y: &mut [usize],
     flow: &mut [usize],
-    rank: &mut [usize],
-    parent: &mut [usize],
-    capacity: &mut [usize],
-    supply: &mut [usize],
-    demand: &mut [usize],
-    out_head: &[usize],
-    out_next: &[usize],
-    in_head: &[usize],
-    in_next: &[usize],
-    queue: &mut [usize],
+    tree: &mut Tree<'_>,
+    stock: &mut Stock<'_>,
+    hints: &mut Hints<'_>,
     s: usize,
 )
-    requires shaped { Shaped from.now to.now gap.now n }
-    requires weight_len { length weight.now ≡ length from.now }
-    requires weight_bound { sum weight.now < weight_limit }
-    requires lengths { Lengths n y.old rank.old parent.old capacity.old }
-    requires narrow { Narrow gap.now n }
-    requires flows { Flows from.now to.now gap.now weight.now n y.old flow.old supply.old demand.old }
-    requires rows_low { RowsLow n calm_limit y.old }
-    requires s_lt_n { s < n }
-    ensures { Drained from.now to.now gap.now weight.now n s y.old supply.old y.new flow.new supply.new demand.new rank.new parent.new capacity.new }
+    requires lengths { Lengths net.now.arcs.n y.old tree.old.rank.now tree.old.parent.now tree.old.capacity.now }
+    requires flows { Flows net.now.arcs.from.now net.now.arcs.to.now net.now.arcs.gap.now net.now.weight.now net.now.arcs.n y.old flow.old stock.old.supply.now stock.old.demand.now }
+    requires rows_low { RowsLow net.now.arcs.n calm_limit y.old }
+    requires s_lt_n { s < net.now.arcs.n }
+    ensures { Drained net.now.arcs.from.now net.now.arcs.to.now net.now.arcs.gap.now net.now.weight.now net.now.arcs.n s y.old stock.old.supply.now y.new flow.new stock.new.supply.now stock.new.demand.now tree.new.rank.now tree.new.parent.now tree.new.capacity.now }
 {
-    let mut amount = supply[s];
+    let mut amount = stock.supply[s];
     while amount > 0 {
-        plant_root(rank, capacity, n, s, amount);
-        let t = grow_tree(
-            from, to, gap, weight, flow, n, y, rank, parent, capacity, supply, demand, out_head,
-            out_next, in_head, in_next, queue, s, amount,
-        );
-        amount = send_flow(
-            from, to, gap, weight, n, y, flow, rank, parent, capacity, supply, demand, s, t,
-        );
+        plant_root(tree, net.arcs.n, s, amount);
+        let t = grow_tree(&net.arcs, y, flow, tree, stock, hints, s);
+        amount = send_flow(net, y, flow, tree, stock, s, t);
     }
 }
 
-// The higher one of the node found so far and of v, which has an amount to send; at n none is found.
-fn pick_node(y: &[usize], n: usize, best: usize, v: usize, amount: usize) -> usize
-    ensures { Picks n best v amount result }
+// The higher one of the node found so far and of v, which has an amount to send.
+fn pick_node(y: &[usize], best: Option<usize>, v: usize, amount: usize) -> Option<usize>
+    ensures { Picks best v amount result }
 {
     if amount == 0 {
         return best;
     }
-    if best >= n {
-        return v;
+    if let Some(u) = best {
+        if y.get(u) >= y.get(v) {
+            return best;
+        }
     }
-    if read_entry(y, best) >= read_entry(y, v) {
-        return best;
-    }
-    v
+    Some(v)
 }
 
-// The highest node that has something to send; n where there is none.
-fn find_supply(y: &[usize], supply: &[usize], n: usize) -> usize
-    requires { length supply.now ≡ n }
-    ensures { NextSupply n n supply.now result }
+// The highest node that has something to send.
+fn find_supply(y: &[usize], stock: &Stock<'_>) -> Option<usize>
+    ensures { NextSupply (length stock.now.supply.now) stock.now.supply.now result }
 {
-    let mut best = n;
-    let mut v = 0;
-    while v < n {
-        best = pick_node(y, n, best, v, supply[v]);
-        v += 1;
+    let mut best = None;
+    for (v, &amount) in stock.supply.iter().enumerate() {
+        best = pick_node(y, best, v, amount);
     }
     best
 }
 
 // All that the nodes have to send, sent, the highest node first.
 pub fn drain_nodes(
-    from: &[usize],
-    to: &[usize],
-    gap: &[usize],
-    weight: &[usize],
-    n: usize,
+    net: &Net<'_>,
     y: &mut [usize],
     flow: &mut [usize],
-    rank: &mut [usize],
-    parent: &mut [usize],
-    capacity: &mut [usize],
-    supply: &mut [usize],
-    demand: &mut [usize],
-    out_head: &[usize],
-    out_next: &[usize],
-    in_head: &[usize],
-    in_next: &[usize],
-    queue: &mut [usize],
+    tree: &mut Tree<'_>,
+    stock: &mut Stock<'_>,
+    hints: &mut Hints<'_>,
 )
-    requires shaped { Shaped from.now to.now gap.now n }
-    requires weight_len { length weight.now ≡ length from.now }
-    requires weight_bound { sum weight.now < weight_limit }
-    requires lengths { Lengths n y.old rank.old parent.old capacity.old }
-    requires narrow { Narrow gap.now n }
-    requires flows { Flows from.now to.now gap.now weight.now n y.old flow.old supply.old demand.old }
-    requires rows_low { RowsLow n calm_limit y.old }
-    ensures { DrainedAll from.now to.now gap.now weight.now n y.old y.new flow.new supply.new demand.new }
+    requires lengths { Lengths net.now.arcs.n y.old tree.old.rank.now tree.old.parent.now tree.old.capacity.now }
+    requires flows { Flows net.now.arcs.from.now net.now.arcs.to.now net.now.arcs.gap.now net.now.weight.now net.now.arcs.n y.old flow.old stock.old.supply.now stock.old.demand.now }
+    requires rows_low { RowsLow net.now.arcs.n calm_limit y.old }
+    ensures { DrainedAll net.now.arcs.from.now net.now.arcs.to.now net.now.arcs.gap.now net.now.weight.now net.now.arcs.n y.old y.new flow.new stock.new.supply.now stock.new.demand.now }
 {
-    let mut s = find_supply(y, supply, n);
-    while s < n {
-        drain_node(
-            from, to, gap, weight, n, y, flow, rank, parent, capacity, supply, demand, out_head,
-            out_next, in_head, in_next, queue, s,
-        );
-        s = find_supply(y, supply, n);
+    while let Some(s) = find_supply(y, stock) {
+        drain_node(net, y, flow, tree, stock, hints, s);
     }
 }

@@ -1,2 +1,2 @@
--- What drawing a chart asks, and the room in which it is laid.
+-- What drawing a chart asks.
 pub mod Drawing

@@ -4,12 +4,12 @@ use mathlib.Core.List.{List}
 use Prim.Native.Nat.{ℕ, ◌≤◌, ◌<◌}
 use borrow.Author.Tests.{le-leb, lt-leb}
 use lib.ListN.{length}
+use Rattle.std.specs.Prelude.{Result}
 use Rattle.graph.specs.declared.Edge.{Edge}
 use Rattle.outcome.specs.declared.Refusal.{Refusal}
 use Rattle.outcome.specs.declared.Refusal.TheVariants.{ManySteps, ManyEdges}
 use Rattle.table.specs.Limits.{max_steps, max_edges}
 use Rattle.outcome.specs.Refusal.{done, refused}
-use Rattle.rows.specs.declared.types.RowsAnswer.{RowsAnswer}
 use Rattle.rows.specs.declared.types.RowsFound.{RowsFound}
 use Rattle.rows.specs.Answers.{rows_found}
 use Rattle.rows.specs.Placed.{held_rows, FairEdges, Placed, EdgesPlaced, RowsHandedOut}
@@ -41,14 +41,14 @@ module _ (n : ℕ) (edges : List Edge) where
         pub records-fair : FairEdges n edges
         records-fair = record { few_steps = few; few_edges = fewer; each = judged-fair n edges judged }
 
-        pub records-placed : {f : RowsFound} → EdgesPlaced n edges f → RecordsPlaced n edges f
-        records-placed {f} p = subst (λ o. Placed n edges o f) (sym outcome) p
+        pub records-placed : {r : Result RowsFound Refusal} → EdgesPlaced n edges r → RecordsPlaced n edges r
+        records-placed {r} p = subst (λ o. Placed n edges o r) (sym outcome) p
 
 -- what the call promises
-pub record-call : (n : ℕ) (edges : List Edge) (f : RowsFound) (old new : List ℕ) (r : RowsAnswer) → RecordsPlaced n edges f
-    → RowsHandedOut (held_rows n f) old new r
+pub record-call : (n : ℕ) (edges : List Edge) (f : Result RowsFound Refusal) (old new : List ℕ) (r : Result Unit Refusal) → RecordsPlaced n edges f
+    → RowsHandedOut (held_rows f) old new r
     → RecordsAnswered n edges old new r
 unfolding record_call
 record-call n edges f old new r p h =
     let k : RowsHandedOut (rows_of_records n edges) old new r = subst (λ o. RowsHandedOut o old new r) p.says h in
-    (k.numbers, (k.rows, handed-best n edges (rows_of_records n edges) f p old new r k))
+    (k.numbers, (k.rows, handed-best n edges old new p k))

@@ -10,15 +10,18 @@ use borrow.Author.Tests.{ltb-true, leb-true, eqb-false}
 use lib.Dec.{leb, ltb, eqb}
 use lib.ListN.{length, get_or, drop}
 use lib.Seq.{drop-cons}
+use Rattle.std.specs.List.{zip}
+use Rattle.std.proofs.lemmas.List.{get_or_read}
+use Rattle.std.proofs.lemmas.Slice.Zip.{length-zip, get_or-zip}
+use Rattle.relaxation.proofs.EdgesLaws.{length-edges_of, edge_at}
+use Rattle.flatten.specs.Flat.{Flat}
+use Rattle.flatten.specs.Flat.{flat_edges}
 use Rattle.graph.specs.declared.Edge.{Edge}
-use Rattle.graph.specs.Rows.{at, no_edge}
+use Rattle.graph.specs.Rows.{no_edge}
 use Rattle.outcome.specs.declared.Refusal.{Refusal}
-use Rattle.table.specs.Limits.{min_gap, max_gap, max_weight, max_edges}
+use Rattle.table.specs.Limits.{min_gap, max_gap, max_weight}
 use Rattle.outcome.specs.Refusal.{Outcome, done, refused, then_do}
 use Rattle.table.specs.Fair.{FairEdge}
-use Rattle.flatten.specs.declared.Flat.{Flat}
-use Rattle.flatten.specs.Flat.{front_edges, Full}
-use Rattle.flatten.proofs.FlattenLaws.{front_length, front_at}
 use Rattle.edgelist.specs.Calls.{ends_good, sizes_good, edge_judged, records_judged}
 
 never : {X : Type 0} {A : Type 0} {r : Refusal} {a : A} → refused r ≡ done a → X
@@ -67,39 +70,79 @@ judged-fair n [] p i h = absurd (not-suc-le-zero h)
 judged-fair n (e ∷ edges) p zero h = judged-fair-one n e (passed_first (edge_judged n e) (records_judged n edges) p).0
 judged-fair n (e ∷ edges) p (suc i) h = judged-fair n edges (passed_first (edge_judged n e) (records_judged n edges) p).1 i (le_of_suc-le-suc h)
 
--- ---- a loop that judges the first m edges of flat arrays: the whole is what is left from here on
+-- ---- a loop that judges edges: the whole is what is left from here on
 
-pub record Judging (n m : ℕ) (flat : Flat) (i : ℕ) : Type 0 where
-  pub left : records_judged n (front_edges m flat) ≡ records_judged n (drop i (front_edges m flat))
+pub record Judging (n : ℕ) (edges : List Edge) (i : ℕ) : Type 0 where
+  pub left : records_judged n edges ≡ records_judged n (drop i edges)
 
-module _ (n m : ℕ) (flat : Flat) where
-  pub judging-none : Judging n m flat 0
+module _ {n : ℕ} {edges : List Edge} where
+  pub judging-none : Judging n edges 0
   judging-none = record { left = refl }
 
-  module _ (few : m ≤ max_edges) (full : Full flat) (i : ℕ) (j : Judging n m flat i) where
-    abbrev this : Edge
-    this = record { from = at flat.from i; to = at flat.to i; gap = at flat.gap i; weight = at flat.weight i }
-
-    module _ (h : i < m) where
-      first : (o : Outcome (Unit {0})) → edge_judged n this ≡ o
-          → records_judged n (front_edges m flat) ≡ then_do o (λ _. records_judged n (drop (suc i) (front_edges m flat)))
+  module _ {i : ℕ} (j : Judging n edges i) where
+    module _ (h : i < length edges) (o : Outcome (Unit {0})) (p : o ≡ edge_judged n (get_or edges i no_edge)) where
+      first : records_judged n edges ≡ then_do o (λ _. records_judged n (drop (suc i) edges))
       unfolding records_judged
-      first o p =
-          j.left ∙ ap (records_judged n) (drop-cons (front_edges m flat) i no_edge (omega (arith, front_length m flat full few)))
-          ∙ ap (λ x. then_do x (λ _. records_judged n (drop (suc i) (front_edges m flat)))) (ap (edge_judged n) (sym (front_at m flat full few i h)) ∙ p)
+      first = j.left ∙ ap (records_judged n) (drop-cons edges i no_edge h) ∙ ap (λ x. then_do x (λ _. records_judged n (drop (suc i) edges))) (sym p)
 
-      pub judging-fault : {f : Refusal} → edge_judged n this ≡ refused f → refused f ≡ records_judged n (front_edges m flat)
-      judging-fault {f} p = sym (first (refused f) p)
+    pub judging-fault : {f : Refusal} → i < length edges → refused f ≡ edge_judged n (get_or edges i no_edge) → refused f ≡ records_judged n edges
+    judging-fault {f} h p = sym (first h (refused f) p)
 
-      pub judging-more : edge_judged n this ≡ done tt → Judging n m flat (i + 1)
-      judging-more p = record { left = rw (add-one i) (first (done tt) p) }
+    pub judging-more : i < length edges → done tt ≡ edge_judged n (get_or edges i no_edge) → Judging n edges (i + 1)
+    judging-more h p = record { left = rw (add-one i) (first h (done tt) p) }
 
-    pub judging-all : m ≤ i → done tt ≡ records_judged n (front_edges m flat)
+    pub judging-all : length edges ≤ i → done tt ≡ records_judged n edges
     unfolding records_judged
-    judging-all h = sym (j.left ∙ ap (records_judged n) (drop_all (front_edges m flat) i (omega (arith, front_length m flat full few))))
+    judging-all h = sym (j.left ∙ ap (records_judged n) (drop_all edges i h))
       where
         drop_all : (l : List Edge) (k : ℕ) → length l ≤ k → drop k l ≡ []
         drop_all [] zero h = refl
         drop_all [] (suc k) h = refl
         drop_all (x ∷ l) zero h = absurd (not-suc-le-zero h)
         drop_all (x ∷ l) (suc k) h = drop_all l k (le_of_suc-le-suc h)
+
+-- ---- four lists read side by side
+
+module _ (f : Flat) where
+  abbrev sides : List ((ℕ × ℕ) × (ℕ × ℕ))
+  sides = zip (zip f.from.items f.to.items) (zip f.gap.items f.weight.items)
+
+  ends_long : length (zip f.from.items f.to.items) ≡ length f.from.items
+  ends_long = omega (arith, length-zip f.from.items f.to.items, f.even.to_long)
+
+  sizes_long : length (zip f.gap.items f.weight.items) ≡ length f.from.items
+  sizes_long = omega (arith, length-zip f.gap.items f.weight.items, f.even.gap_long, f.even.weight_long)
+
+  pub flat-sides : length sides ≡ length (flat_edges f)
+  flat-sides =
+      omega (
+        arith,
+        length-zip (zip f.from.items f.to.items) (zip f.gap.items f.weight.items),
+        ends_long,
+        sizes_long,
+        length-edges_of f.from.items f.to.items f.gap.items f.weight.items,
+      )
+
+  -- what a turn over them reads is the edge there
+  pub side-edge : (i a b g w : ℕ) → (i < length sides) × (◌≡◌ {A = (ℕ × ℕ) × (ℕ × ℕ)} ((a, b), (g, w)) (get_or sides i ((a, b), (g, w))))
+      → (i < length (flat_edges f)) × (record { from = a; to = b; gap = g; weight = w } ≡ get_or (flat_edges f) i no_edge)
+  side-edge i a b g w p = (
+    omega (arith, p.0, flat-sides),
+    rw (edge_at f.from.items f.to.items f.gap.items f.weight.items i h)
+        (rw (
+          get_or_read f.from.items i a h (ap (λ q. q.0.0) each) 0,
+          get_or_read f.to.items i b (omega (arith, h, f.even.to_long)) (ap (λ q. q.0.1) each) 0,
+          get_or_read f.gap.items i g (omega (arith, h, f.even.gap_long)) (ap (λ q. q.1.0) each) 0,
+          get_or_read f.weight.items i w (omega (arith, h, f.even.weight_long)) (ap (λ q. q.1.1) each) 0,
+        ) refl),
+  )
+    where
+      h : i < length f.from.items
+      h = omega (arith, p.0, flat-sides, length-edges_of f.from.items f.to.items f.gap.items f.weight.items)
+
+      each : ◌≡◌ {A = (ℕ × ℕ) × (ℕ × ℕ)} ((a, b), (g, w)) ((get_or f.from.items i a, get_or f.to.items i b), (get_or f.gap.items i g, get_or f.weight.items i w))
+      each =
+          p.1 ∙ get_or-zip (zip f.from.items f.to.items) (zip f.gap.items f.weight.items) i ((a, b), (g, w)) (omega (arith, h, ends_long)) (omega (arith, h, sizes_long))
+          ∙ ap (λ q. (q, get_or (zip f.gap.items f.weight.items) i (g, w))) (get_or-zip f.from.items f.to.items i (a, b) h (omega (arith, h, f.even.to_long)))
+          ∙ ap (λ q. ((get_or f.from.items i a, get_or f.to.items i b), q))
+          (get_or-zip f.gap.items f.weight.items i (g, w) (omega (arith, h, f.even.gap_long)) (omega (arith, h, f.even.weight_long)))

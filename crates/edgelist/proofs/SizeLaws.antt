@@ -13,7 +13,7 @@ use Rattle.outcome.specs.declared.Refusal.TheVariants.{ManySteps, ManyEdges}
 use Rattle.table.specs.Limits.{max_steps, max_edges, old_size}
 use Rattle.outcome.specs.Refusal.{Outcome, done, refused, then_do, demand}
 use Rattle.rows.specs.Answers.{rows_found}
-use Rattle.rows.specs.Placed.{old_top_row}
+use Rattle.rows.specs.Limits.{old_top_row}
 use Rattle.rows.proofs.PlacedLaws.{found_rows}
 use Rattle.rows.proofs.HeightLaws.{rows-byte}
 use Rattle.edgelist.specs.Calls.{records_judged, rows_of_records}

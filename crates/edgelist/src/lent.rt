@@ -1,87 +1,87 @@
-// Lent edges, copied to flat arrays: judged and placed.
-ghost use Rattle.std.specs.Prelude.{◌≡◌, ◌≤◌};
+// Lent edges, copied to flat lists: judged and placed.
+ghost use Rattle.std.specs.Prelude.{◌≡◌, ◌≤◌, length};
 ghost use Rattle.table.specs.Limits.{max_edges};
-ghost use Rattle.flatten.specs.Flat.{front_edges, Full};
-ghost use Rattle.rows.specs.Placed.{outcome_by};
-ghost use Rattle.edgelist.specs.Calls.{edge_judged, records_judged};
+ghost use Rattle.outcome.specs.Refusal.{outcome_of};
+ghost use Rattle.flatten.specs.Flat.{flat_edges};
+ghost use Rattle.edgelist.specs.Calls.{ends_good, sizes_good, edge_judged, records_judged};
 ghost use Rattle.edgelist.specs.Lent.{LentPlaced, LentAnswered};
 
 use flatten::Flat;
 use graph::Edge;
-use outcome::{Refusal, Verdict};
+use outcome::Refusal;
 use ranking::place_edges;
-use rows::refuse_rows;
 use rows::store::hand_out;
-use rows::types::{Row, RowsAnswer, RowsFound};
+use rows::types::{Row, RowsFound};
 use table::limits::{MAX_EDGES, MAX_GAP, MAX_STEPS, MAX_WEIGHT, MIN_GAP};
 
 // The answer for n steps and m lent edges, and its rows in a buffer.
-pub fn answer_lent(n: usize, flat: Flat, m: usize, rows: &mut [Row]) -> RowsAnswer
-    requires { Full flat }
-    ensures { LentAnswered n m flat rows.old rows.new result }
+// Of a list that is too long none is copied, so its length comes beside it.
+pub fn answer_lent(n: usize, m: usize, flat: &Flat, rows: &mut [Row]) -> Result<(), Refusal>
+    ensures { LentAnswered n m flat.now rows.old rows.new result }
 {
-    let found = place_lent(n, flat, m);
-    hand_out(found, n, rows)
+    let found = place_lent(n, m, flat)?;
+    hand_out(&found, rows)
 }
 
-// The rows of m lent edges, between n steps.
-fn place_lent(n: usize, flat: Flat, m: usize) -> RowsFound
-    requires { Full flat }
-    ensures { LentPlaced n m flat result }
+// The rows of m lent edges, between n steps. Of more than the limit none is copied.
+fn place_lent(n: usize, m: usize, flat: &Flat) -> Result<RowsFound, Refusal>
+    ensures { LentPlaced n m flat.now result }
 {
     if MAX_STEPS < n {
-        return refuse_rows(Refusal::ManySteps);
+        return Err(Refusal::ManySteps);
     }
     if MAX_EDGES < m {
-        return refuse_rows(Refusal::ManyEdges);
+        return Err(Refusal::ManyEdges);
     }
-    match judge_edges(n, flat, m) {
-        Verdict::Refused(f) => refuse_rows(f),
-        Verdict::Accepted => place_edges(flat, m, n),
-    }
+    judge_edges(n, flat)?;
+    place_edges(flat, n)
 }
 
-// The first m edges between n steps, each in turn: the first fault decides.
-fn judge_edges(n: usize, flat: Flat, m: usize) -> Verdict
-    requires { (m ≤ max_edges) × Full flat }
-    ensures { outcome_by result tt ≡ records_judged n (front_edges m flat) }
+// Edges between n steps, each in turn: the first fault decides.
+fn judge_edges(n: usize, flat: &Flat) -> Result<(), Refusal>
+    ensures judged { outcome_of result ≡ records_judged n (flat_edges flat.now) }
+    ensures few { length (flat_edges flat.now) ≤ max_edges }
 {
-    for i in 0..m {
-        let e = Edge {
-            from: flat.from[i],
-            to: flat.to[i],
-            gap: flat.gap[i],
-            weight: flat.weight[i],
-        };
-        match judge_edge(n, e) {
-            Verdict::Refused(f) => return Verdict::Refused(f),
-            Verdict::Accepted => {}
-        }
+    let ends = flat.from.iter().zip(&flat.to);
+    let sizes = flat.gap.iter().zip(&flat.weight);
+    for ((&from, &to), (&gap, &weight)) in ends.zip(sizes) {
+        judge_edge(
+            n,
+            Edge {
+                from,
+                to,
+                gap,
+                weight,
+            },
+        )?;
     }
-    Verdict::Accepted
+    Ok(())
 }
 
 // One edge between n steps: its ends, then its gap and its weight.
-fn judge_edge(n: usize, e: Edge) -> Verdict
-    ensures { outcome_by result tt ≡ edge_judged n e }
+#[tactic(auto, unfolding(crate::specs::Calls::edge_judged))]
+fn judge_edge(n: usize, e: Edge) -> Result<(), Refusal>
+    ensures { outcome_of result ≡ edge_judged n e }
 {
-    if n <= e.from {
-        return Verdict::Refused(Refusal::BadEnd);
+    if !has_good_ends(n, e) {
+        return Err(Refusal::BadEnd);
     }
-    if n <= e.to {
-        return Verdict::Refused(Refusal::BadEnd);
+    if !has_good_sizes(e) {
+        return Err(Refusal::OutOfRange);
     }
-    if e.from == e.to {
-        return Verdict::Refused(Refusal::BadEnd);
-    }
-    if e.gap < MIN_GAP {
-        return Verdict::Refused(Refusal::OutOfRange);
-    }
-    if MAX_GAP < e.gap {
-        return Verdict::Refused(Refusal::OutOfRange);
-    }
-    if MAX_WEIGHT < e.weight {
-        return Verdict::Refused(Refusal::OutOfRange);
-    }
-    Verdict::Accepted
+    Ok(())
+}
+
+// Whether the ends are two different steps, of n steps.
+fn has_good_ends(n: usize, e: Edge) -> bool
+    ensures { result ≡ ends_good n e }
+{
+    e.from < n && e.to < n && e.from != e.to
+}
+
+// Whether gap and weight are in range.
+fn has_good_sizes(e: Edge) -> bool
+    ensures { result ≡ sizes_good e }
+{
+    MIN_GAP <= e.gap && e.gap <= MAX_GAP && e.weight <= MAX_WEIGHT
 }

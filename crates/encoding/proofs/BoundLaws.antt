@@ -1,12 +1,12 @@
 -- How many bytes the parts of a shortest table have at most.
-use mathlib.Core.Path.{sym, ap, subst, ◌∙◌}
+use mathlib.Core.Path.{ap, ◌∙◌}
 use mathlib.Core.Bool.{Bool, true, false, cond}
 use mathlib.Core.List.{List, [], ◌∷◌, ◌++◌, map}
 use Prim.Native.Nat.{ℕ, zero, suc, ◌+◌, ◌*◌, ◌≤◌, ◌<◌}
 use native.Mathlib.Omega.{arith}
 use lib.Dec.{eqb}
 use lib.ListN.{length, get_or, take, drop, length-append, length-drop}
-use lib.Seq.{length-take-le, get_or-take}
+use lib.Seq.{length-take-le}
 use Rattle.graph.specs.declared.TableEdge.{TableEdge}
 use Rattle.graph.specs.Directed.{no_table_edge, own_edge}
 use Rattle.table.specs.declared.rule.Rule.TheVariants.{Shortest}
@@ -73,34 +73,22 @@ each-bytes write none w (a ∷ l) h =
     let rest = each-bytes write none w l (λ i k. h (suc i) (omega arith)) in
     omega (arith, first, rest, length-append (write a) (each write l))
 
--- the same of the first n items of an array
-some_bytes : {A : Type 0} (write : A → List ℕ) (none : A) (w n : ℕ) (l : List A) → n ≤ length l → ((i : ℕ) → i < n → length (write (get_or l i none)) ≤ w)
-    → length (each write (take n l)) ≤ n * w
-some_bytes write none w n l few h =
-    let count = length-take-le n l few in
-    subst (λ k. length (each write (take n l)) ≤ k * w) count
-    (each-bytes write none w (take n l) λ i k.
-    let j : i < n = omega (arith, count) in
-    subst (λ a. length (write a) ≤ w) (sym (get_or-take n l i none j)) (h i j))
-
 -- ---- the lists, and the edition
 
-pub steps-bytes : (bytes : List ℕ) (steps : List Step) (n : ℕ) → WritableSteps bytes steps n
-    → length (short_list short_step (map (said_step bytes) (take n steps))) ≤ 1 + max_steps * step_bytes Shortest
-steps-bytes bytes steps n g =
-    let few : n ≤ length steps = omega (arith, g.few, g.long) in
+pub steps-bytes : (bytes : List ℕ) (steps : List Step) → WritableSteps bytes steps
+    → length (short_list short_step (map (said_step bytes) steps)) ≤ 1 + max_steps * step_bytes Shortest
+steps-bytes bytes steps g =
     let write : Step → List ℕ = λ s. short_step (said_step bytes s) in
-    let whole = ap length (said-parts bytes steps n few).is ∙ length-append (short_number n) (each write (take n steps)) in
-    let all = some_bytes write no_step (step_bytes Shortest) n steps few (λ i h. step-bytes bytes (get_or steps i no_step) (g.each_step i h)) in
-    omega (arith, whole, all, g.few, bytes_one n (omega (arith, g.few)))
+    let whole = ap length (said-parts bytes steps).is ∙ length-append (short_number (length steps)) (each write steps) in
+    let all = each-bytes write no_step (step_bytes Shortest) steps (λ i h. step-bytes bytes (get_or steps i no_step) (g.each_step i h)) in
+    omega (arith, whole, all, g.few, bytes_one (length steps) (omega (arith, g.few)))
 
-pub edges-bytes : (edition : ℕ) (edges : List TableEdge) (m : ℕ) → WritableEdges edges m
-    → length (short_list (short_edge edition) (take m edges)) ≤ 2 + max_edges * edge_bytes Shortest max_steps
-edges-bytes edition edges m g =
-    let few : m ≤ length edges = omega (arith, g.few, g.long) in
-    let whole = ap length (list-parts (short_edge edition) edges m few).is ∙ length-append (short_number m) (each (short_edge edition) (take m edges)) in
-    let all = some_bytes (short_edge edition) no_table_edge (edge_bytes Shortest max_steps) m edges few (λ i h. edge-bytes edition (get_or edges i no_table_edge) (g.each_edge i h)) in
-    omega (arith, whole, all, g.few, bytes-two m (omega (arith, g.few)))
+pub edges-bytes : (edition : ℕ) (edges : List TableEdge) → WritableEdges edges
+    → length (short_list (short_edge edition) edges) ≤ 2 + max_edges * edge_bytes Shortest max_steps
+edges-bytes edition edges g =
+    let whole = ap length (list-parts (short_edge edition) edges).is ∙ length-append (short_number (length edges)) (each (short_edge edition) edges) in
+    let all = each-bytes (short_edge edition) no_table_edge (edge_bytes Shortest max_steps) edges (λ i h. edge-bytes edition (get_or edges i no_table_edge) (g.each_edge i h)) in
+    omega (arith, whole, all, g.few, bytes-two (length edges) (omega (arith, g.few)))
 
 pub edition-low : (edges : List TableEdge) → edition_for edges ≤ max_edition
 edition-low edges = go (any_soft edges)

@@ -1,5 +1,4 @@
-// The parts of a table in their fewest bytes, put into a buffer one behind the other: numbers, steps, and edges in the edition that can
-// tell them. Each function that writes answers where the next byte goes.
+// The parts of a table in their fewest bytes, put at the end of a page: numbers, steps, and edges in the edition that can tell them.
 #![tactic(auto)]
 
 pub mod edge;

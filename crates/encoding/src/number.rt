@@ -1,31 +1,33 @@
-// Numbers in their fewest bytes, put into a buffer one behind the other. Each function answers where the next byte goes.
-ghost use Rattle.std.specs.Prelude.{◌++◌, ◌+◌, ◌≤◌, ◌<◌, length};
-ghost use Rattle.buffers.specs.Written.{Stored};
+// Numbers in their fewest bytes, put at the end of a page.
+ghost use Rattle.std.specs.Prelude.{◌≡◌, ◌++◌, ◌+◌, ◌≤◌, ◌<◌, length};
+ghost use Rattle.arrayvec.specs.ArrayVec.{array_vec_len};
 ghost use Rattle.encoding.specs.Limits.{number_limit};
 ghost use Rattle.encoding.specs.Shortest.{short_number};
 
-use labels::text::put_byte;
+use arrayvec::ArrayVec;
 
 // A number of a table, of which none needs a third byte.
-pub fn write_number(v: usize, out: &mut [u8], at: usize) -> usize
+#[tactic(auto, using(crate::proofs::ShortLaws::short_one, crate::proofs::ShortLaws::short_two))]
+pub fn write_number<const CAP: usize>(v: usize, page: &mut ArrayVec<u8, CAP>)
     requires v_lt_number_limit { v < number_limit }
-    requires v_in_bounds { at + length (short_number v) ≤ length out.old }
-    ensures { Stored out.old at (short_number v) out.new result }
+    requires room { array_vec_len page.old + length (short_number v) ≤ CAP }
+    ensures { page.new.items ≡ page.old.items ++ short_number v }
 {
     if v < 0x80 {
-        return put_byte(v as u8, out, at);
+        page.push(v as u8);
+        return;
     }
-    let next = put_byte((v % 0x80 + 0x80) as u8, out, at);
-    put_byte((v / 0x80) as u8, out, next)
+    page.push((v % 0x80 + 0x80) as u8);
+    page.push((v / 0x80) as u8);
 }
 
 // Two numbers.
-pub fn write_pair(a: usize, b: usize, out: &mut [u8], at: usize) -> usize
+pub fn write_pair<const CAP: usize>(a: usize, b: usize, page: &mut ArrayVec<u8, CAP>)
     requires a_lt_number_limit { a < number_limit }
     requires b_lt_number_limit { b < number_limit }
-    requires b_in_bounds { at + length (short_number a ++ short_number b) ≤ length out.old }
-    ensures { Stored out.old at (short_number a ++ short_number b) out.new result }
+    requires room { array_vec_len page.old + length (short_number a ++ short_number b) ≤ CAP }
+    ensures { page.new.items ≡ page.old.items ++ short_number a ++ short_number b }
 {
-    let next = write_number(a, out, at);
-    write_number(b, out, next)
+    write_number(a, page);
+    write_number(b, page);
 }

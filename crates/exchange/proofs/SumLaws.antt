@@ -6,10 +6,10 @@ use native.Mathlib.Numerals.{add-one}
 use native.Mathlib.Nat.{min-le_left}
 use native.Mathlib.Omega.{arith}
 use lib.ListN.{length, get_or, drop, length-drop, drop_of_length-le}
-use lib.Seq.{drop-cons}
+use lib.Seq.{drop-cons, get_or-drop}
 use Rattle.exchange.specs.Costs.{cost_with, cost_of, cheaper}
 use Rattle.exchange.specs.Limits.{max_row_points}
-use Rattle.exchange.specs.Tables.{table_size, cost_in, cost_limit, Rated}
+use Rattle.exchange.specs.Tables.{cost_in, cost_limit, PairCosts, RowPoints}
 use Rattle.exchange.proofs.CostLaws.{with_none, with-cons, of_none, of_cons}
 
 -- what a row costs at the most
@@ -34,72 +34,71 @@ module _ (cost : ℕ → ℕ → ℕ) (low : (i j : ℕ) → cost i j < cost_lim
   with-low i a order h = omega (arith, with_bound i (drop a order), length-drop a order)
 
 -- the costs of a table are low, either way and in the cheaper of two orders
-pub low-in : (order costs : List ℕ) → Rated order costs → (i j : ℕ) → cost_in costs i j < cost_limit
-low-in order costs p i j = p.low (i * max_row_points + j)
+pub low-in : (costs : List ℕ) → PairCosts costs → (i j : ℕ) → cost_in costs i j < cost_limit
+low-in costs t i j = t.low (i * max_row_points + j)
 
-pub low-cheaper : (order costs : List ℕ) → Rated order costs → (i j : ℕ) → cheaper (cost_in costs) i j < cost_limit
-low-cheaper order costs p i j = omega (arith, min-le_left (cost_in costs i j) (cost_in costs j i), p.low (i * max_row_points + j))
+pub low-cheaper : (costs : List ℕ) → PairCosts costs → (i j : ℕ) → cheaper (cost_in costs) i j < cost_limit
+low-cheaper costs t i j = omega (arith, min-le_left (cost_in costs i j) (cost_in costs j i), t.low (i * max_row_points + j))
 
-pub total-bound : (order costs : List ℕ) → Rated order costs → cost_of (cost_in costs) order ≤ total_limit
-total-bound order costs p = rest-low (cost_in costs) (low-in order costs p) 0 order p.few
+pub total-bound : (order costs : List ℕ) → RowPoints order → PairCosts costs → cost_of (cost_in costs) order ≤ total_limit
+total-bound order costs p t = rest-low (cost_in costs) (low-in costs t) 0 order p.few
 
-pub rest-bound : (order costs : List ℕ) (a : ℕ) → Rated order costs → cost_of (cost_in costs) (drop a order) ≤ total_limit
-rest-bound order costs a p = rest-low (cost_in costs) (low-in order costs p) a order p.few
+pub rest-bound : (order costs : List ℕ) (a : ℕ) → RowPoints order → PairCosts costs → cost_of (cost_in costs) (drop a order) ≤ total_limit
+rest-bound order costs a p t = rest-low (cost_in costs) (low-in costs t) a order p.few
 
--- where the cost of a pair stands in the table
-pub in_table : (order costs : List ℕ) → Rated order costs → (a b x y : ℕ) → a < length order → b < length order → x ≡ get_or order a 0 → y ≡ get_or order b 0
-    → (x * max_row_points + y < length costs) × (length costs ≡ table_size)
-in_table order costs p a b x y h l e f = (omega (arith, p.table, p.points a h, p.points b l), p.table)
+-- the points behind a place are few too
+pub rest-points : (order : List ℕ) (a : ℕ) → RowPoints order → RowPoints (drop a order)
+rest-points order a p = record {
+  few = omega (arith, p.few, length-drop a order);
+  points = λ i h. rw (get_or-drop a order i 0) (p.points (a + i) (omega (arith, length-drop a order)));
+}
 
 -- ---- one point with those on its right
 
--- The sum so far and the cost with the points from b on make the whole.
-pub record Adding (cost : ℕ → ℕ → ℕ) (order : List ℕ) (a sum b : ℕ) : Type 0 where
-  pub within : b ≤ length order
-  pub whole : sum + cost_with cost (get_or order a 0) (drop b order) ≡ cost_with cost (get_or order a 0) (drop (a + 1) order)
+-- The sum so far and the cost with the points from place b on make the whole.
+pub record Adding (cost : ℕ → ℕ → ℕ) (x : ℕ) (right : List ℕ) (sum b : ℕ) : Type 0 where
+  pub within : b ≤ length right
+  pub whole : sum + cost_with cost x (drop b right) ≡ cost_with cost x right
 
-pub adding-start : (cost : ℕ → ℕ → ℕ) (order : List ℕ) (a : ℕ) → a < length order → Adding cost order a 0 (a + 1)
-adding-start cost order a h = record { within = omega arith; whole = omega arith }
+pub adding_start : (cost : ℕ → ℕ → ℕ) (x : ℕ) (right : List ℕ) → Adding cost x right 0 0
+adding_start cost x right = record { within = omega arith; whole = omega arith }
 
-module _ (cost : ℕ → ℕ → ℕ) (order : List ℕ) (a sum b : ℕ) (s : Adding cost order a sum b) where
-  adding-one : b < length order → cost_with cost (get_or order a 0) (drop b order)
-      ≡ cost (get_or order a 0) (get_or order b 0) + cost_with cost (get_or order a 0) (drop (b + 1) order)
-  adding-one h = rw (drop-cons order b 0 h, add-one b) (with-cons cost (get_or order a 0) (get_or order b 0) (drop (suc b) order))
+module _ (cost : ℕ → ℕ → ℕ) (x : ℕ) (right : List ℕ) (sum b : ℕ) (s : Adding cost x right sum b) where
+  pub adding-more : (v : ℕ) → b < length right → v ≡ cost x (get_or right b 0) → Adding cost x right (sum + v) (b + 1)
+  adding-more v h e =
+      let t : cost_with cost x (drop b right) ≡ cost x (get_or right b 0) + cost_with cost x (drop (b + 1) right) =
+      rw (drop-cons right b 0 h, add-one b) (with-cons cost x (get_or right b 0) (drop (suc b) right)) in
+      record { within = omega arith; whole = omega (arith, s.whole, t) }
 
-  pub adding-more : (x y v : ℕ) → b < length order → x ≡ get_or order a 0 → y ≡ get_or order b 0 → v ≡ cost x y → Adding cost order a (sum + v) (b + 1)
-  adding-more x y v h e f g =
-      let t : cost x y ≡ cost (get_or order a 0) (get_or order b 0) = rw (e, f) in
-      record { within = omega arith; whole = omega (arith, s.whole, adding-one h) }
+  pub adding-room : length right ≤ max_row_points → ((i j : ℕ) → cost i j < cost_limit) → sum ≤ total_limit
+  adding-room few low = omega (arith, s.whole, with-low cost low x 0 right few)
 
-  pub adding-room : length order ≤ max_row_points → ((i j : ℕ) → cost i j < cost_limit) → sum ≤ total_limit
-  adding-room few low = omega (arith, s.whole, with-low cost low (get_or order a 0) (a + 1) order few)
-
-  pub adding-end : length order ≤ b → sum ≡ cost_with cost (get_or order a 0) (drop (a + 1) order)
+  pub adding-end : length right ≤ b → sum ≡ cost_with cost x right
   adding-end h =
-      let e : cost_with cost (get_or order a 0) (drop b order) ≡ 0 = rw (drop_of_length-le order {i = b} h) (with_none cost (get_or order a 0)) in
+      let e : cost_with cost x (drop b right) ≡ 0 = rw (drop_of_length-le right {i = b} h) (with_none cost x) in
       omega (arith, s.whole, e)
 
--- ---- all points from a place on
+-- ---- all points of a row
 
--- The sum so far and the cost of the points from i on make the whole.
-pub record Totalling (cost : ℕ → ℕ → ℕ) (order : List ℕ) (a sum i : ℕ) : Type 0 where
-  pub within : i ≤ length order
-  pub whole : sum + cost_of cost (drop i order) ≡ cost_of cost (drop a order)
+-- The sum so far and the cost of the points from place i on make the whole.
+pub record Totalling (cost : ℕ → ℕ → ℕ) (row : List ℕ) (sum i : ℕ) : Type 0 where
+  pub within : i ≤ length row
+  pub whole : sum + cost_of cost (drop i row) ≡ cost_of cost row
 
-pub totalling-start : (cost : ℕ → ℕ → ℕ) (order : List ℕ) (a : ℕ) → a ≤ length order → Totalling cost order a 0 a
-totalling-start cost order a h = record { within = h; whole = omega arith }
+pub totalling_start : (cost : ℕ → ℕ → ℕ) (row : List ℕ) → Totalling cost row 0 0
+totalling_start cost row = record { within = omega arith; whole = omega arith }
 
-module _ (cost : ℕ → ℕ → ℕ) (order : List ℕ) (a sum i : ℕ) (s : Totalling cost order a sum i) where
-  totalling-one : i < length order → cost_of cost (drop i order) ≡ cost_with cost (get_or order i 0) (drop (i + 1) order) + cost_of cost (drop (i + 1) order)
-  totalling-one h = rw (drop-cons order i 0 h, add-one i) (of_cons cost (get_or order i 0) (drop (suc i) order))
+module _ (cost : ℕ → ℕ → ℕ) (row : List ℕ) (sum i : ℕ) (s : Totalling cost row sum i) where
+  pub totalling-more : (v : ℕ) → i < length row → v ≡ cost_with cost (get_or row i 0) (drop (i + 1) row) → Totalling cost row (sum + v) (i + 1)
+  totalling-more v h e =
+      let t : cost_of cost (drop i row) ≡ cost_with cost (get_or row i 0) (drop (i + 1) row) + cost_of cost (drop (i + 1) row) =
+      rw (drop-cons row i 0 h, add-one i) (of_cons cost (get_or row i 0) (drop (suc i) row)) in
+      record { within = omega arith; whole = omega (arith, s.whole, t) }
 
-  pub totalling-more : (v : ℕ) → i < length order → v ≡ cost_with cost (get_or order i 0) (drop (i + 1) order) → Totalling cost order a (sum + v) (i + 1)
-  totalling-more v h e = record { within = omega arith; whole = omega (arith, s.whole, totalling-one h) }
+  pub totalling-room : length row ≤ max_row_points → ((i j : ℕ) → cost i j < cost_limit) → sum ≤ total_limit
+  totalling-room few low = omega (arith, s.whole, rest-low cost low 0 row few)
 
-  pub totalling-room : length order ≤ max_row_points → ((i j : ℕ) → cost i j < cost_limit) → sum ≤ total_limit
-  totalling-room few low = omega (arith, s.whole, rest-low cost low a order few)
-
-  pub totalling-end : length order ≤ i → sum ≡ cost_of cost (drop a order)
+  pub totalling-end : length row ≤ i → sum ≡ cost_of cost row
   totalling-end h =
-      let e : cost_of cost (drop i order) ≡ 0 = rw (drop_of_length-le order {i = i} h) (of_none cost) in
+      let e : cost_of cost (drop i row) ≡ 0 = rw (drop_of_length-le row {i = i} h) (of_none cost) in
       omega (arith, s.whole, e)

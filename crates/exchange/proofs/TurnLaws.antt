@@ -14,28 +14,33 @@ use Rattle.permutations.specs.Next.{last, next_order, following}
 use Rattle.exchange.specs.Best.{fewest_by, cheapest}
 use Rattle.permutations.specs.Places.{Advanced}
 use Rattle.exchange.specs.Limits.{max_row_points}
-use Rattle.exchange.specs.Tables.{cost_in, Rated, CostIs, Moved}
-use Rattle.exchange.specs.Turns.{FewerKept, replaced, kept, BestIs}
+use Rattle.exchange.specs.Tables.{cost_in, PairCosts, RowPoints, CostIs, Moved}
+use Rattle.exchange.specs.Turns.{BestIs}
+use Rattle.buffers.specs.Keeping.{Keeping, kept, replaced}
 use Rattle.permutations.proofs.PointLaws.{same_length, same_rest, below_each}
 use Rattle.exchange.proofs.CostLaws.{ends-differ}
 use Rattle.permutations.proofs.NextLaws.{next-same}
-use Rattle.exchange.proofs.SumLaws.{total_limit, total-bound, rest-bound}
+use Rattle.exchange.proofs.SumLaws.{total_limit, total-bound, rest-bound, rest-points}
+use Rattle.std.proofs.lemmas.List.{take_rest}
 
 -- ---- the next order and its cost
 
-rated-same : (p q costs : List ℕ) → Permutation p q → Rated p costs → Rated q costs
-rated-same p q costs h c = record {
+points-same : (p q : List ℕ) → Permutation p q → RowPoints p → RowPoints q
+points-same p q h c = record {
   few = omega (arith, same_length p q h, c.few);
   points = λ i g. below_each max_row_points p c.points (get_or q i 0) (omega (arith, h.points (get_or q i 0), at-occurs q i g));
-  table = c.table;
-  low = c.low;
 }
 
-pub moved-rated : (p costs q : List ℕ) (r total : ℕ) → CostIs p costs total → Advanced p r q → Rated q costs
-moved-rated p costs q r total c a = rated-same p q costs (next-same p q a.next) c.rated
+pub moved-points : (p costs q : List ℕ) (r total : ℕ) → CostIs p costs total → Advanced p r q → RowPoints q
+moved-points p costs q r total c a = points-same p q (next-same p q a.next) c.row_points
+
+-- the points from the one that changes on
+pub after-points : (p costs q : List ℕ) (r total : ℕ) → CostIs p costs total → Advanced p r q → RowPoints (take (length q - (r - 1)) (drop (r - 1) q))
+after-points p costs q r total c a = rw (take_rest q) (rest-points q (r - 1) (moved-points p costs q r total c a))
 
 module _ (p costs q : List ℕ) (r total before after : ℕ) (c : CostIs p costs total) (a : Advanced p r q)
-    (b : before ≡ cost_of (cost_in costs) (drop (r - 1) p)) (f : after ≡ cost_of (cost_in costs) (drop (r - 1) q)) where
+    (t : PairCosts costs) (b : before ≡ cost_of (cost_in costs) (take (length p - (r - 1)) (drop (r - 1) p)))
+    (f : after ≡ cost_of (cost_in costs) (take (length q - (r - 1)) (drop (r - 1) q))) where
   same : Permutation p q
   same = next-same p q a.next
 
@@ -46,14 +51,22 @@ module _ (p costs q : List ℕ) (r total before after : ℕ) (c : CostIs p costs
       ≡ cost_of (cost_in costs) (take (r - 1) p ++ drop (r - 1) q) + cost_of (cost_in costs) (drop (r - 1) p) =
       ends-differ (cost_in costs) (take (r - 1) p) (drop (r - 1) p) (drop (r - 1) q) (same_rest (r - 1) p q same a.begins) in
       let u : take (r - 1) p ++ drop (r - 1) q ≡ q = ap (λ (l : List ℕ). l ++ drop (r - 1) q) (sym a.begins) ∙ take-append-drop (r - 1) q in
-      omega (arith, w, ap (cost_of (cost_in costs)) (take-append-drop (r - 1) p), ap (cost_of (cost_in costs)) u, c.total_is)
+      omega (
+        arith,
+        w,
+        b ∙ ap (cost_of (cost_in costs)) (take_rest p (r - 1)),
+        f ∙ ap (cost_of (cost_in costs)) (take_rest q (r - 1)),
+        ap (cost_of (cost_in costs)) (take-append-drop (r - 1) p),
+        ap (cost_of (cost_in costs)) u,
+        c.total_is,
+      )
 
   pub moved-room : (total + after ≤ total_limit + total_limit) × (before ≤ total + after)
   moved-room =
-      (omega (arith, c.total_is, total-bound p costs c.rated, rest-bound q costs (r - 1) (moved-rated p costs q r total c a)), omega (arith, balance))
+      (omega (arith, c.total_is, total-bound p costs c.row_points t, rest-bound q costs (r - 1) (moved-points p costs q r total c a) t, f, ap (cost_of (cost_in costs)) (take_rest q (r - 1))), omega (arith, balance))
 
   pub moved : Moved p costs q (total + after - before)
-  moved = record { next = a.next; costed = record { rated = moved-rated p costs q r total c a; total_is = omega (arith, balance) } }
+  moved = record { next = a.next; costed = record { row_points = moved-points p costs q r total c a; total_is = omega (arith, balance) } }
 
 -- ---- the loop
 
@@ -64,13 +77,13 @@ pub record Trying (costs : List ℕ) (tries : ℕ) (row order saved : List ℕ) 
   pub lowest_is : lowest ≡ cost_of (cost_in costs) saved
   pub whole : cheapest (cost_in costs) tries row ≡ fewest_by (cost_of (cost_in costs)) saved (following (tries - t) (next_order order))
 
-pub trying_start : (costs : List ℕ) (tries : ℕ) (row saved : List ℕ) (total : ℕ) → Rated row costs → saved ≡ row → total ≡ cost_of (cost_in costs) (drop 0 row)
+pub trying_start : (costs : List ℕ) (tries : ℕ) (row saved : List ℕ) (total : ℕ) → RowPoints row → saved ≡ row → total ≡ cost_of (cost_in costs) row
     → Trying costs tries row row saved total total 0
 unfolding cheapest
 trying_start costs tries row saved total p e f =
     let z : tries - 0 ≡ tries = omega arith in
     record {
-      costed = record { rated = p; total_is = f };
+      costed = record { row_points = p; total_is = f };
       long = ap length e;
       lowest_is = rw e f;
       whole = rw (z, e);
@@ -89,7 +102,7 @@ module _ (costs : List ℕ) (tries : ℕ) (row order saved : List ℕ) (total lo
       let z : tries - t ≡ 0 = omega arith in
       record { order_is = sym (s.whole ∙ rw z); cost_is = s.lowest_is }
 
-  module _ (q kept-order : List ℕ) (total' lowest' : ℕ) (h : t < tries) (m : Moved order costs q total') (k : FewerKept q total' saved lowest kept-order lowest') where
+  module _ (q kept-order : List ℕ) (total' lowest' : ℕ) (h : t < tries) (m : Moved order costs q total') (k : Keeping q total' saved lowest kept-order lowest') where
     pub trying-more : Trying costs tries row q kept-order total' lowest' (t + 1)
     unfolding following fewest_by
     trying-more = go k
@@ -104,8 +117,8 @@ module _ (costs : List ℕ) (tries : ℕ) (row order saved : List ℕ) (total lo
         as_long : length order ≡ length q
         as_long = same_length order q (next-same order q m.next)
 
-        go : FewerKept q total' saved lowest kept-order lowest' → Trying costs tries row q kept-order total' lowest' (t + 1)
-        go (replaced l e f) =
+        go : Keeping q total' saved lowest kept-order lowest' → Trying costs tries row q kept-order total' lowest' (t + 1)
+        go (replaced l f e) =
             let w : ltb (cost_of (cost_in costs) q) (cost_of (cost_in costs) saved) ≡ true = lt-ltb (cost_of (cost_in costs) q) (cost_of (cost_in costs) saved) (omega (arith, s.lowest_is, m.costed.total_is)) in
             record {
               costed = m.costed;
@@ -113,7 +126,7 @@ module _ (costs : List ℕ) (tries : ℕ) (row order saved : List ℕ) (total lo
               lowest_is = rw (e, f) m.costed.total_is;
               whole = turn ∙ rw (w, e);
             }
-        go (kept l e f) =
+        go (kept l f e) =
             let w : ltb (cost_of (cost_in costs) q) (cost_of (cost_in costs) saved) ≡ false = le-ltb (cost_of (cost_in costs) q) (cost_of (cost_in costs) saved) (omega (arith, s.lowest_is, m.costed.total_is)) in
             record {
               costed = m.costed;

@@ -16,16 +16,19 @@ cost_in costs i j = get_or costs (i * max_row_points + j) 0
 abbrev pub cost_limit : ℕ
 cost_limit = 4294967296
 
--- a row of few points, and a table that has the costs of their pairs
-pub record Rated (order costs : List ℕ) : Type 0 where
-  pub few : length order ≤ max_row_points
-  pub points : (i : ℕ) → i < length order → get_or order i 0 < max_row_points
+-- a table of the crossings of pairs
+pub record PairCosts (costs : List ℕ) : Type 0 where
   pub table : length costs ≡ table_size
   pub low : (k : ℕ) → get_or costs k 0 < cost_limit
 
+-- a row of few points, whose pairs a table has
+pub record RowPoints (order : List ℕ) : Type 0 where
+  pub few : length order ≤ max_row_points
+  pub points : (i : ℕ) → i < length order → get_or order i 0 < max_row_points
+
 -- an order and what it costs
 pub record CostIs (order costs : List ℕ) (total : ℕ) : Type 0 where
-  pub rated : Rated order costs
+  pub row_points : RowPoints order
   pub total_is : total ≡ cost_of (cost_in costs) order
 
 -- the order that is next, and what it costs

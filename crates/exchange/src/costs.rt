@@ -1,79 +1,81 @@
-// What an order costs, by a table of the costs of pairs.
-ghost use Rattle.std.specs.Prelude.{◌≡◌, ◌+◌, ◌≤◌, ◌<◌, length, get_or, drop};
+// What an order of a row costs, by a table of the costs of pairs.
+ghost use Rattle.std.specs.Prelude.{◌≡◌, ℕ, ◌<◌};
+ghost use Rattle.exchange.specs.Limits.{max_row_points};
 ghost use Rattle.exchange.specs.Costs.{cost_with, cost_of, cheaper, floor_of};
-ghost use Rattle.exchange.specs.Tables.{cost_in, Rated};
+ghost use Rattle.exchange.specs.Tables.{cost_in, cost_limit, PairCosts, RowPoints};
 
 use crate::limits::MAX_ROW_POINTS;
-use buffers::smaller_of;
 
-// A point as an index.
-fn wide(x: u8) -> usize
-    ensures { result ≡ x }
-{
-    x as usize
+// The costs of pairs: a line for the left point, and an entry in it for the right one.
+#[derive(Clone, Copy)]
+pub struct Costs<'a> {
+    pub table: &'a [usize],
+    ghost priced: { PairCosts table.now },
 }
 
-// The cost of the point at place a with those on its right.
-fn cost_with(order: &[u8], costs: &[usize], a: usize) -> usize
-    requires rated { Rated order.now costs.now }
-    requires a_in_bounds { a < length order.now }
-    ensures { result ≡ cost_with (cost_in costs.now) (get_or order.now a 0) (drop (a + 1) order.now) }
+impl Costs<'_> {
+    // A pair with the left point first.
+    fn pair(&self, left: u8, right: u8) -> usize
+        requires both { (left < max_row_points) × (right < max_row_points) }
+        ensures { result ≡ cost_in self.now.table.now left right }
+    {
+        self.table[left as usize * MAX_ROW_POINTS + right as usize]
+    }
+
+    // A pair in the cheaper of its two orders.
+    fn cheaper_pair(&self, x: u8, y: u8) -> usize
+        requires both { (x < max_row_points) × (y < max_row_points) }
+        ensures { result ≡ cheaper (cost_in self.now.table.now) x y }
+    {
+        self.pair(x, y).min(self.pair(y, x))
+    }
+
+    // The cost of points from left to right.
+    pub fn add_up(&self, row: &[u8]) -> usize
+        requires { RowPoints row.now }
+        ensures { result ≡ cost_of (cost_in self.now.table.now) row.now }
+    {
+        add_pairs(row, |x, y| self.pair(x, y))
+    }
+
+    // The floor of a row.
+    pub fn find_floor(&self, row: &[u8]) -> usize
+        requires { RowPoints row.now }
+        ensures { result ≡ floor_of (cost_in self.now.table.now) row.now }
+    {
+        add_pairs(row, |x, y| self.cheaper_pair(x, y))
+    }
+}
+
+// Each pair of a row, the left point first, by what a closure says that it costs.
+fn add_pairs<F: Fn(u8, u8) -> usize>(row: &[u8], cost: F) -> usize
+    ghost c: { ℕ → ℕ → ℕ }
+    requires row_points { RowPoints row.now }
+    requires callable { (x y : ℕ) → x < max_row_points → y < max_row_points → F.pre cost x y }
+    requires computes { (x y r : ℕ) → x < max_row_points → y < max_row_points → F.post cost x y r → r ≡ c x y }
+    requires low { (x y : ℕ) → c x y < cost_limit }
+    ensures { result ≡ cost_of c row.now }
 {
-    let line = wide(order[a]) * MAX_ROW_POINTS;
     let mut sum = 0;
-    let mut b = a + 1;
-    while b < order.len() {
-        let k = line + wide(order[b]);
-        sum += costs[k];
-        b += 1;
+    for (a, &x) in row.iter().enumerate() {
+        sum += add_right(x, &row[a + 1..], &cost);
     }
     sum
 }
 
-// The cost of the points from place a on.
-pub fn cost_from(order: &[u8], costs: &[usize], a: usize) -> usize
-    requires rated { Rated order.now costs.now }
-    requires a_in_bounds { a ≤ length order.now }
-    ensures { result ≡ cost_of (cost_in costs.now) (drop a order.now) }
+// A point with those on its right.
+fn add_right<F: Fn(u8, u8) -> usize>(x: u8, right: &[u8], cost: &F) -> usize
+    ghost c: { ℕ → ℕ → ℕ }
+    requires x_bound { x < max_row_points }
+    requires row_points { RowPoints right.now }
+    requires callable { (x y : ℕ) → x < max_row_points → y < max_row_points → F.pre cost.now x y }
+    requires computes { (x y r : ℕ) → x < max_row_points → y < max_row_points → F.post cost.now x y r → r ≡ c x y }
+    requires low { (x y : ℕ) → c x y < cost_limit }
+    ensures { result ≡ cost_with c x right.now }
 {
     let mut sum = 0;
-    let mut i = a;
-    while i < order.len() {
-        sum += cost_with(order, costs, i);
-        i += 1;
-    }
-    sum
-}
-
-// The point at place a with those on its right, each pair in the cheaper of its two orders.
-fn floor_with(order: &[u8], costs: &[usize], a: usize) -> usize
-    requires rated { Rated order.now costs.now }
-    requires a_in_bounds { a < length order.now }
-    ensures { result ≡ cost_with (cheaper (cost_in costs.now)) (get_or order.now a 0) (drop (a + 1) order.now) }
-{
-    let x = wide(order[a]);
-    let mut sum = 0;
-    let mut b = a + 1;
-    while b < order.len() {
-        let y = wide(order[b]);
-        let k = x * MAX_ROW_POINTS + y;
-        let l = y * MAX_ROW_POINTS + x;
-        sum += smaller_of(costs[k], costs[l]);
-        b += 1;
-    }
-    sum
-}
-
-// The floor of a row.
-pub fn find_floor(order: &[u8], costs: &[usize]) -> usize
-    requires { Rated order.now costs.now }
-    ensures { result ≡ floor_of (cost_in costs.now) order.now }
-{
-    let mut sum = 0;
-    let mut i = 0;
-    while i < order.len() {
-        sum += floor_with(order, costs, i);
-        i += 1;
+    for &y in right {
+        sum += cost(x, y);
     }
     sum
 }

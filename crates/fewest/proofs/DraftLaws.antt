@@ -17,11 +17,12 @@ use Rattle.points.specs.Lists.{Linked}
 use Rattle.barycentre.specs.Steps.{Counted}
 use Rattle.crossings.specs.Placing.{placed_by, Countable}
 use Rattle.fewest.specs.Drafts.{best_in, Segmented, Prepared, Scratch, Passable, Improving, Bettered, DrawingHeld}
-use Rattle.judging.specs.Judging.{Keeping, kept, replaced, Judged}
+use Rattle.buffers.specs.Keeping.{Keeping, kept, replaced}
+use Rattle.judging.specs.Judging.{Judged}
 use Rattle.points.specs.Positions.{row_at}
 use Rattle.passes.proofs.LaidLaws.{points-end, row-part}
 use Rattle.crossings.proofs.PlacingLaws.{crossings-placed}
-use Rattle.judging.proofs.AgreeLaws.{lists_agree}
+use Rattle.std.proofs.lemmas.List.{ext_get_or}
 use Rattle.fewest.proofs.CountableLaws.{laid-lists, laid-countable}
 use Rattle.fewest.proofs.FewestLaws.{rest-better, rest-kept, rest-still}
 
@@ -213,7 +214,7 @@ module _ {row upper lower above_head above_next above below_head below_next belo
 same_rows : {row order order' first pos pos' : List ℕ} {o o' : List (List ℕ)} → Laid row (rows_held first) o order first pos
     → Laid row (rows_held first) o' order' first pos' → order' ≡ order → o' ≡ o
 same_rows {row} {order} {order'} {first} {o = o} {o' = o'} h h' e =
-    lists_agree [] o' o (omega (arith, h.ranked.rows, h'.ranked.rows)) λ r l.
+    ext_get_or [] o' o (omega (arith, h.ranked.rows, h'.ranked.rows)) λ r l.
     sym (row-part row (rows_held first) o' order' first h'.ranked r (omega (arith, h'.ranked.rows)))
     ∙ ap (λ (x : List ℕ). row_at first x r) e
     ∙ row-part row (rows_held first) o order first h.ranked r (omega (arith, h'.ranked.rows))

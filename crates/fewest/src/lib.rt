@@ -1,14 +1,17 @@
 // The passes over a drawing, and the first order with fewest crossings among theirs and the start.
 #![tactic(auto)]
 
+mod lent;
+
 ghost use Rattle.std.specs.Prelude.{◌≡◌, length};
 ghost use Rattle.passes.specs.Order.{downward};
 ghost use Rattle.fewest.specs.Fewest.{pass_count};
-ghost use Rattle.fewest.specs.Drafts.{best_in, Prepared, Scratch, Passable, Improving, Bettered, DrawingHeld};
+ghost use Rattle.fewest.specs.Drafts.{best_in, Scratch, Passable, Improving, Bettered, DrawingHeld};
 
-use buffers::copy_all;
-use judging::{is_same, keep_better};
-use passes::{pass_down, pass_up};
+pub use crate::lent::{Draft, Sides, Sketch};
+use crossings::Rows;
+use judging::keep_better;
+use passes::{Work, pass_down, pass_up};
 
 // A pass down and a pass up, as often.
 const PASS_PAIRS: usize = 4;
@@ -16,80 +19,52 @@ const PASS_PAIRS: usize = 4;
 // The passes, down and up in turn, each followed by a look at the crossings. Answers the fewest. Where a pass down and a pass up leave the
 // order as it was before them, so do all that would follow, and these are left out.
 pub fn improve_drawing(
-    row: &[usize],
-    upper: &[usize],
-    lower: &[usize],
-    above_head: &[usize],
-    above_next: &[usize],
-    above: &[usize],
-    below_head: &[usize],
-    below_next: &[usize],
-    below: &[usize],
-    first: &[usize],
-    order: &mut [usize],
-    before: &mut [usize],
-    pos: &mut [usize],
-    totals: &mut [usize],
-    moved: &mut [usize],
+    sides: &Sides<'_>,
+    draft: &mut Draft<'_>,
+    work: &mut Work<'_>,
     saved: &mut [usize],
     crossings: usize,
 ) -> usize
-    requires prepared { Prepared row.now upper.now lower.now above_head.now above_next.now above.now below_head.now below_next.now below.now }
-    requires improving { Improving row.now upper.now lower.now first.now pass_count downward order.old pos.old saved.old crossings }
-    requires scratch { Scratch row.now totals.old moved.old }
-    requires before_len { length before.old ≡ length order.old }
-    ensures { DrawingHeld (best_in row.now upper.now lower.now first.now) saved.new result }
+    requires improving { Improving sides.now.row.now sides.now.above.far.now sides.now.below.far.now draft.old.first.now pass_count downward draft.old.order.now draft.old.pos.now saved.old crossings }
+    requires scratch { Scratch sides.now.row.now work.old.totals.now work.old.moved.now }
+    requires before_len { length draft.old.before.now ≡ length draft.old.order.now }
+    ensures { DrawingHeld (best_in sides.now.row.now sides.now.above.far.now sides.now.below.far.now draft.old.first.now) saved.new result }
 {
+    let first = &mut *draft.first;
+    let order = &mut *draft.order;
+    let before = &mut *draft.before;
+    let pos = &mut *draft.pos;
     let mut fewest = crossings;
-    let mut k = 0;
-    while k < PASS_PAIRS {
-        copy_all(order, before);
-        fewest = pass_both(
-            row, upper, lower, above_head, above_next, above, below_head, below_next, below, first,
-            order, pos, totals, moved, saved, fewest,
-        );
-        if is_same(before, order) {
+    for _ in 0..PASS_PAIRS {
+        before.copy_from_slice(order);
+        fewest = pass_both(sides, first, order, pos, work, saved, fewest);
+        if *before == *order {
             return fewest;
         }
-        k += 1;
     }
     fewest
 }
 
-// A pass down and a pass up. Answers the fewest crossings so far.
+// A pass down and a pass up. Answers the fewest crossings so far. The order, its positions and the best order come as slices of their own,
+// since the caller has to know what they hold afterwards.
 fn pass_both(
-    row: &[usize],
-    upper: &[usize],
-    lower: &[usize],
-    above_head: &[usize],
-    above_next: &[usize],
-    above: &[usize],
-    below_head: &[usize],
-    below_next: &[usize],
-    below: &[usize],
+    sides: &Sides<'_>,
     first: &[usize],
     order: &mut [usize],
     pos: &mut [usize],
-    totals: &mut [usize],
-    moved: &mut [usize],
+    work: &mut Work<'_>,
     saved: &mut [usize],
     fewest: usize,
 ) -> usize
-    requires prepared { Prepared row.now upper.now lower.now above_head.now above_next.now above.now below_head.now below_next.now below.now }
-    requires passable { Passable row.now first.now order.old pos.old totals.old moved.old saved.old }
-    ensures { Bettered row.now upper.now lower.now first.now order.old pos.old saved.old fewest order.new pos.new saved.new result }
+    requires { Passable sides.now.row.now first.now order.old pos.old work.old.totals.now work.old.moved.now saved.old }
+    ensures bettered { Bettered sides.now.row.now sides.now.above.far.now sides.now.below.far.now first.now order.old pos.old saved.old fewest order.new pos.new saved.new result }
+    ensures totals_kept { length work.new.totals.now ≡ length work.old.totals.now }
+    ensures moved_kept { length work.new.moved.now ≡ length work.old.moved.now }
 {
-    pass_down(
-        upper, above_head, above_next, above, first, order, pos, totals, moved,
-    );
-    let kept = keep_better(
-        below_head, below_next, lower, first, order, pos, moved, totals, saved, fewest,
-    );
-    pass_up(
-        lower, below_head, below_next, below, first, order, // as the pass down left it
-        pos, totals, moved,
-    );
-    keep_better(
-        below_head, below_next, lower, first, order, pos, moved, totals, saved, kept,
-    )
+    pass_down(&sides.above, first, order, pos, work);
+    let down = Rows { order, first, pos };
+    let kept = keep_better(&down, &sides.below, work.moved, work.totals, saved, fewest);
+    pass_up(&sides.below, first, order, pos, work);
+    let up = Rows { order, first, pos };
+    keep_better(&up, &sides.below, work.moved, work.totals, saved, kept)
 }

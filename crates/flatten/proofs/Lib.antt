@@ -1,4 +1,3 @@
--- Laws by subject. A layer above wants FlattenLaws, CopyLaws and NumberLaws.
+-- Why flat lists hold the edges that they were given.
 pub mod FlattenLaws
-pub mod CopyLaws
 pub mod NumberLaws

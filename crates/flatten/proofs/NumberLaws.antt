@@ -5,9 +5,9 @@ use Prim.Native.Nat.{ℕ, zero, suc, ◌+◌, ◌*◌, ◌/◌, ◌≤◌, ◌<�
 use native.Mathlib.Nat.{not-suc-le-zero, le_of_suc-le-suc}
 use native.Mathlib.Omega.{arith}
 use lib.ListN.{length, get_or}
-use Rattle.graph.specs.declared.Edge.{Edge}
 use Rattle.graph.specs.Rows.{at, no_edge}
 use Rattle.flatten.specs.Records.{records_of}
+use Rattle.flatten.proofs.FlattenLaws.{edge}
 
 pub records-length : (l : List ℕ) → length (records_of l) ≡ length l / 4
 unfolding records_of
@@ -19,10 +19,6 @@ records-length (f ∷ t ∷ g ∷ w ∷ l) = omega (arith, records-length l)
 
 pub record-inside : (l : List ℕ) (i : ℕ) → i < length (records_of l) → i * 4 + 4 ≤ length l
 record-inside l i h = omega (arith, records-length l)
-
--- four numbers as an edge
-abbrev edge : ℕ → ℕ → ℕ → ℕ → Edge
-edge f t g w = record { from = f; to = t; gap = g; weight = w }
 
 pub record_is : (l : List ℕ) (i : ℕ) → i < length (records_of l)
     → edge (at l (i * 4)) (at l (i * 4 + 1)) (at l (i * 4 + 2)) (at l (i * 4 + 3)) ≡ get_or (records_of l) i no_edge

@@ -1,3 +1,4 @@
--- Edges in flat arrays, and as they are lent.
+-- Edges in flat lists, and as they are lent.
+pub mod Even
 pub mod Flat
 pub mod Records

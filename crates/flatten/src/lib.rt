@@ -1,30 +1,72 @@
-// Edges copied to flat arrays, one array a field: a table's edges, and edges that are lent as records or as numbers.
+// Edges in flat lists, one list a field: copies of a table's edges, and of edges that are lent as records or as numbers.
 #![tactic(auto)]
 
 pub mod edges;
 pub mod numbers;
 pub mod records;
 
-ghost use Rattle.std.specs.Prelude.{◌≡◌};
-ghost use Rattle.flatten.specs.Records.{copied};
+ghost use Rattle.std.specs.Prelude.{◌≡◌, [], ◌∷◌, ◌++◌, ◌<◌, length};
+ghost use Rattle.graph.specs.Rows.{Within};
+ghost use Rattle.table.specs.Limits.{max_edges};
+ghost use Rattle.flatten.specs.Even.{Even};
 
+use arrayvec::ArrayVec;
+use graph::Edge;
+use relaxation::net::Arcs;
 use table::limits::MAX_EDGES;
 
-// Edges as flat arrays, one array a field.
-#[derive(Clone, Copy)]
-pub struct Flat {
-    pub from: [usize; MAX_EDGES],
-    pub to: [usize; MAX_EDGES],
-    pub gap: [usize; MAX_EDGES],
-    pub weight: [usize; MAX_EDGES],
+// Edges in flat lists, one list a field, of at most so many.
+#[derive(Drop)]
+pub struct EdgeLists<const CAP: usize> {
+    pub from: ArrayVec<usize, CAP>,
+    pub to: ArrayVec<usize, CAP>,
+    pub gap: ArrayVec<usize, CAP>,
+    pub weight: ArrayVec<usize, CAP>,
+    ghost even: { Even from.items to.items gap.items weight.items },
 }
 
-// How many of m lent edges are copied: all, or none of too many.
-fn count_copied(m: usize) -> usize
-    ensures { result ≡ copied m }
-{
-    if m <= MAX_EDGES {
-        return m;
+// As many as a table can have.
+pub type Flat = EdgeLists<MAX_EDGES>;
+
+impl<const CAP: usize> EdgeLists<CAP> {
+    ghost use Rattle.flatten.specs.Flat.{flat_edges};
+
+    // No edges.
+    pub fn new() -> Self
+        ensures { flat_edges result ≡ [] }
+    {
+        EdgeLists {
+            from: ArrayVec::<usize, CAP>::new(),
+            to: ArrayVec::<usize, CAP>::new(),
+            gap: ArrayVec::<usize, CAP>::new(),
+            weight: ArrayVec::<usize, CAP>::new(),
+        }
     }
-    0
+
+    // One edge more, field by field. There must be room.
+    pub fn push(&mut self, e: Edge)
+        requires { length (flat_edges self.old) < CAP }
+        ensures { flat_edges self.new ≡ flat_edges self.old ++ e ∷ [] }
+    {
+        self.from.push(e.from);
+        self.to.push(e.to);
+        self.gap.push(e.gap);
+        self.weight.push(e.weight);
+    }
+
+    // The edges as the solver takes them, where they join n nodes.
+    pub fn arcs(&self, n: usize) -> Arcs<'_>
+        requires { Within n (flat_edges self.now) }
+        ensures from { result.from.now ≡ self.now.from.items }
+        ensures to { result.to.now ≡ self.now.to.items }
+        ensures gap { result.gap.now ≡ self.now.gap.items }
+        ensures nodes { result.n ≡ n }
+    {
+        Arcs {
+            from: &self.from,
+            to: &self.to,
+            gap: &self.gap,
+            n,
+        }
+    }
 }

@@ -1,37 +1,29 @@
 // Edges lent as a slice of numbers, four to an edge.
 ghost use Rattle.std.specs.Prelude.{◌≡◌, ◌<◌, length, get_or};
 ghost use Rattle.graph.specs.Rows.{no_edge};
-ghost use Rattle.flatten.specs.Records.{records_of, Collected};
+ghost use Rattle.flatten.specs.Flat.{flat_edges};
+ghost use Rattle.flatten.specs.Records.{records_of, copied};
 
-use crate::{Flat, count_copied};
+use crate::Flat;
 use graph::Edge;
 use table::limits::MAX_EDGES;
 
 // How many numbers make an edge.
 pub const FIELDS: usize = 4;
 
-// The edges that the numbers write down, field by field.
+// The edges that the numbers write down. Of more than the limit none is read. They are read by their number, which tells the place of their
+// numbers; the library has no law of slices cut into fours.
 pub fn flatten_numbers(numbers: &[usize]) -> Flat
-    ensures { Collected (records_of numbers.now) result }
+    ensures { flat_edges result ≡ copied (records_of numbers.now) }
 {
-    let end = count_copied(numbers.len() / FIELDS);
-    let mut from = [0usize; MAX_EDGES];
-    let mut to = [0usize; MAX_EDGES];
-    let mut gap = [0usize; MAX_EDGES];
-    let mut weight = [0usize; MAX_EDGES];
-    for i in 0..end {
-        let e = edge_at(numbers, i);
-        from[i] = e.from;
-        to[i] = e.to;
-        gap[i] = e.gap;
-        weight[i] = e.weight;
+    let mut flat = Flat::new();
+    let count = numbers.len() / FIELDS;
+    if count <= MAX_EDGES {
+        for i in 0..count {
+            flat.push(edge_at(numbers, i));
+        }
     }
-    Flat {
-        from: from,
-        to: to,
-        gap: gap,
-        weight: weight,
-    }
+    flat
 }
 
 // Edge i.

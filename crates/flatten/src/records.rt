@@ -1,30 +1,21 @@
 // Edges lent as a slice of records.
-ghost use Rattle.flatten.specs.Records.{Collected};
+ghost use Rattle.std.specs.Prelude.{◌≡◌};
+ghost use Rattle.flatten.specs.Flat.{flat_edges};
+ghost use Rattle.flatten.specs.Records.{copied};
 
-use crate::{Flat, count_copied};
+use crate::Flat;
 use graph::Edge;
 use table::limits::MAX_EDGES;
 
-// The records, field by field. Of a slice longer than the limit no record is read.
+// The records. Of a slice longer than the limit no record is read.
 pub fn flatten_records(records: &[Edge]) -> Flat
-    ensures { Collected records.now result }
+    ensures { flat_edges result ≡ copied records.now }
 {
-    let end = count_copied(records.len());
-    let mut from = [0usize; MAX_EDGES];
-    let mut to = [0usize; MAX_EDGES];
-    let mut gap = [0usize; MAX_EDGES];
-    let mut weight = [0usize; MAX_EDGES];
-    for i in 0..end {
-        let e = records[i];
-        from[i] = e.from;
-        to[i] = e.to;
-        gap[i] = e.gap;
-        weight[i] = e.weight;
+    let mut flat = Flat::new();
+    if records.len() <= MAX_EDGES {
+        for e in records {
+            flat.push(*e);
+        }
     }
-    Flat {
-        from: from,
-        to: to,
-        gap: gap,
-        weight: weight,
-    }
+    flat
 }

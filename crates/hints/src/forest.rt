@@ -1,186 +1,125 @@
 // A forest of tight edges, searched in breadth. It is a hint: whatever the entries are, an edge is looked at before anything is handed over it.
-ghost use Rattle.std.specs.Prelude.{◌<◌, ◌≤◌, length};
+ghost use Rattle.std.specs.Prelude.{◌≡◌, ◌≤◌, length};
 
-use buffers::{clear_first, larger_of, read_entry};
 use relaxation::arcs::next_link;
+use relaxation::net::{Arcs, Links, Side};
+use relaxation::scratch::Hints;
 
-// The row at the other end of a tight edge of gap g that has one end in row `row`: below it, or above.
-fn row_beyond(row: usize, g: usize, below: usize) -> usize {
-    if below > 0 {
-        return std::num::wrapping_add_usize(row, g);
-    }
-    std::num::wrapping_sub_usize(row, g)
-}
-
-// Node v, where it was not reached before, reached over edge a; how many nodes are reached.
-fn reach_node(
-    rank: &mut [usize],
-    parent: &mut [usize],
-    queue: &mut [usize],
-    v: usize,
-    a: usize,
+// A forest that grows: a node that was reached has a rank above 0, the edge over which it was, and one of the first `count` places of the queue.
+#[derive(Drop)]
+struct Forest<'a> {
+    rank: &'a mut [usize],
+    parent: &'a mut [usize],
+    queue: &'a mut [usize],
     count: usize,
-) -> usize
-    requires { count ≤ length queue.old }
-    ensures { result ≤ length queue.old }
-{
-    if v >= rank.len() {
-        return count;
-    }
-    if v >= parent.len() {
-        return count;
-    }
-    if count >= queue.len() {
-        return count;
-    }
-    if rank[v] > 0 {
-        return count;
-    }
-    rank[v] = 1;
-    parent[v] = a;
-    queue[count] = v;
-    count + 1
+    ghost room: { count ≤ length queue.now },
 }
 
-// Above 0 where the end of edge a was reached before, or edge a, whose other end is in row `row`, is not tight. Both are told by one
-// number, so that one branch depends on it.
-fn edge_miss(
-    gap: &[usize],
-    y: &[usize],
-    end: &[usize],
-    rank: &[usize],
-    a: usize,
-    row: usize,
-    below: usize,
-) -> usize {
-    if a >= end.len() {
-        return 1;
+// The row at the other end of a tight edge of gap g that has one end in row `row`.
+// There are two sides, so this is a match and takes no closure.
+fn row_beyond(row: usize, g: usize, side: Side) -> usize {
+    match side {
+        Side::Heads => row.wrapping_add(g),
+        Side::Tails => row.wrapping_sub(g),
     }
-    if a >= gap.len() {
-        return 1;
+}
+
+impl Forest<'_> {
+    // Node v, where it was not reached before, reached over edge a.
+    fn reach_node(&mut self, v: usize, a: usize)
+        ensures { length self.new.queue.now ≡ length self.old.queue.now }
+    {
+        if v >= self.rank.len() || v >= self.parent.len() || self.count >= self.queue.len() {
+            return;
+        }
+        if self.rank[v] > 0 {
+            return;
+        }
+        self.rank[v] = 1;
+        self.parent[v] = a;
+        self.queue[self.count] = v;
+        self.count += 1;
     }
-    let v = end[a];
-    if v >= y.len() {
-        return 1;
+
+    // The end of edge a, where it was not reached before and the edge, whose other end is in row `row`, is tight.
+    // Its side says which row is tight.
+    fn reach_edge(&mut self, arcs: &Arcs<'_>, y: &[usize], side: Side, a: usize, row: usize)
+        ensures { length self.new.queue.now ≡ length self.old.queue.now }
+    {
+        if a >= arcs.from.len() {
+            return;
+        }
+        let v = match side {
+            Side::Heads => arcs.to[a],
+            Side::Tails => arcs.from[a],
+        };
+        if v >= y.len() || v >= self.rank.len() {
+            return;
+        }
+        // Most nodes were reached before, so that is asked first: the other way round takes a quarter longer.
+        if self.rank[v] > 0 || y[v] != row_beyond(row, arcs.gap[a], side) {
+            return;
+        }
+        self.reach_node(v, a);
     }
-    if v >= rank.len() {
-        return 1;
+
+    // The ends of the edges in one list of node v. A list is walked by its links.
+    fn reach_list(&mut self, arcs: &Arcs<'_>, y: &[usize], list: &Links<'_>, side: Side, v: usize)
+        ensures { length self.new.queue.now ≡ length self.old.queue.now }
+    {
+        let row = y.get(v).copied().unwrap_or(0);
+        let mut k = list.head.get(v).copied().unwrap_or(0);
+        while k > 0 {
+            self.reach_edge(arcs, y, side, k - 1, row);
+            k = next_link(list.next, k - 1);
+        }
     }
-    larger_of(
-        rank[v],
-        std::num::wrapping_sub_usize(y[v], row_beyond(row, gap[a], below)),
+
+    // All that is reached from a root, put in the queue. A root's parent edge is no edge.
+    // A `while`, since the queue grows while it is read.
+    fn grow_root(
+        &mut self,
+        arcs: &Arcs<'_>,
+        y: &[usize],
+        outs: &Links<'_>,
+        ins: &Links<'_>,
+        root: usize,
     )
-}
-
-// The end of edge a reached, where the edge is tight.
-fn reach_edge(
-    gap: &[usize],
-    y: &[usize],
-    end: &[usize],
-    rank: &mut [usize],
-    parent: &mut [usize],
-    queue: &mut [usize],
-    a: usize,
-    row: usize,
-    below: usize,
-    count: usize,
-) -> usize
-    requires { count ≤ length queue.old }
-    ensures { result ≤ length queue.old }
-{
-    if edge_miss(gap, y, end, rank, a, row, below) > 0 {
-        return count;
+        ensures { length self.new.queue.now ≡ length self.old.queue.now }
+    {
+        let mut i = self.count;
+        self.reach_node(root, arcs.from.len());
+        while i < self.count {
+            let v = self.queue[i];
+            self.reach_list(arcs, y, outs, Side::Heads, v);
+            self.reach_list(arcs, y, ins, Side::Tails, v);
+            i += 1;
+        }
     }
-    reach_node(rank, parent, queue, read_entry(end, a), a, count)
 }
 
-// The ends reached over the tight edges of one list, of a node in row `row`.
-fn reach_list(
-    gap: &[usize],
-    y: &[usize],
-    end: &[usize],
-    next: &[usize],
-    rank: &mut [usize],
-    parent: &mut [usize],
-    queue: &mut [usize],
-    link: usize,
-    row: usize,
-    below: usize,
-    count: usize,
-) -> usize
-    requires { count ≤ length queue.old }
-    ensures { result ≤ length queue.old }
-{
-    let mut k = link;
-    let mut reached = count;
-    while k > 0 {
-        reached = reach_edge(gap, y, end, rank, parent, queue, k - 1, row, below, reached);
-        k = next_link(next, k - 1);
-    }
-    reached
-}
-
-// All that is reached from a root, put in the queue from place `count` on; how many nodes are reached then.
-fn grow_root(
-    from: &[usize],
-    to: &[usize],
-    gap: &[usize],
-    y: &[usize],
-    out_head: &[usize],
-    out_next: &[usize],
-    in_head: &[usize],
-    in_next: &[usize],
-    rank: &mut [usize],
-    parent: &mut [usize],
-    queue: &mut [usize],
-    root: usize,
-    count: usize,
-) -> usize
-    requires { count ≤ length queue.old }
-    ensures { result ≤ length queue.old }
-{
-    let mut reached = reach_node(rank, parent, queue, root, from.len(), count);
-    let mut i = count;
-    while i < reached {
-        let v = read_entry(queue, i);
-        let row = read_entry(y, v);
-        let outs = read_entry(out_head, v);
-        reached = reach_list(
-            gap, y, to, out_next, rank, parent, queue, outs, row, 1, reached,
-        );
-        let ins = read_entry(in_head, v);
-        reached = reach_list(
-            gap, y, from, in_next, rank, parent, queue, ins, row, 0, reached,
-        );
-        i += 1;
-    }
-    reached
-}
-
-// A forest with a root in every node, in their order, that is not reached before; how many nodes it has. A root's parent edge is no edge.
+// A forest with a root in every node, in their order, that is not reached before; how many nodes it has, in the queue.
 pub fn grow_forest(
-    from: &[usize],
-    to: &[usize],
-    gap: &[usize],
+    arcs: &Arcs<'_>,
     y: &[usize],
-    out_head: &[usize],
-    out_next: &[usize],
-    in_head: &[usize],
-    in_next: &[usize],
+    hints: &mut Hints<'_>,
     rank: &mut [usize],
     parent: &mut [usize],
-    queue: &mut [usize],
     order: &[usize],
-) -> usize {
-    clear_first(rank, rank.len());
-    let mut reached = 0;
-    let mut i = 0;
-    while i < order.len() {
-        reached = grow_root(
-            from, to, gap, y, out_head, out_next, in_head, in_next, rank, parent, queue, order[i],
-            reached,
-        );
-        i += 1;
+) -> usize
+    ensures { result ≤ length hints.new.queue.now }
+{
+    rank.fill(0);
+    let mut forest = Forest {
+        rank,
+        parent,
+        queue: hints.queue,
+        count: 0,
+    };
+    for &root in order {
+        forest.grow_root(arcs, y, &hints.outs, &hints.ins, root);
     }
-    reached
+    let count = forest.count;
+    // The proof does not know that the queue, which the forest gives back here, is the one that it grew in.
+    count.min(hints.queue.len())
 }

@@ -2,107 +2,80 @@
 // proposed here is looked at afterwards, so nothing is promised of the rows.
 ghost use Rattle.std.specs.Prelude.{◌≡◌, ◌≤◌, length, drop};
 
-use buffers::{clear_first, read_entry, smaller_of};
 use relaxation::arcs::next_link;
+use relaxation::net::{Arcs, Links, Net};
 
-// No row at all.
-const FAR: usize = 18446744073709551615;
-
-// A number from it on stands for one below 0.
+// A number from it on stands for one below 0: sums go round the end of a word, in room that is lent as numbers.
 const BELOW_ZERO: usize = 9223372036854775808;
 
 // w put on entry v, round the end of a word.
-fn weigh_end(net: &mut [usize], v: usize, w: usize) {
-    if v < net.len() {
-        net[v] = std::num::wrapping_add_usize(net[v], w);
+fn weigh_end(pull: &mut [usize], v: usize, w: usize) {
+    if v < pull.len() {
+        pull[v] = pull[v].wrapping_add(w);
     }
 }
 
 // What the edges out of each node weigh, less what those into it weigh.
-fn weigh_nodes(from: &[usize], to: &[usize], weight: &[usize], net: &mut [usize]) {
-    clear_first(net, net.len());
-    let mut a = 0;
-    while a < from.len() {
-        let w = read_entry(weight, a);
-        weigh_end(net, from[a], w);
-        weigh_end(net, read_entry(to, a), std::num::wrapping_sub_usize(0, w));
-        a += 1;
+fn weigh_nodes(net: &Net<'_>, pull: &mut [usize]) {
+    pull.fill(0);
+    for ((&f, &t), &w) in net.arcs.from.iter().zip(net.arcs.to).zip(net.weight) {
+        weigh_end(pull, f, w);
+        weigh_end(pull, t, w.wrapping_neg());
     }
 }
 
 // The row up to which edge a lets its tail go.
-fn edge_room(to: &[usize], gap: &[usize], y: &[usize], a: usize) -> usize {
-    if a >= to.len() {
+fn edge_room(arcs: &Arcs<'_>, y: &[usize], a: usize) -> usize
+    requires { arcs.now.n ≤ length y.now }
+{
+    if a >= arcs.to.len() {
         return 0;
     }
-    if a >= gap.len() {
-        return 0;
-    }
-    let t = to[a];
-    if t >= y.len() {
-        return 0;
-    }
-    std::num::wrapping_sub_usize(y[t], gap[a])
+    y[arcs.to[a]].wrapping_sub(arcs.gap[a])
 }
 
-// The row up to which the edges of one list let their tail go.
-fn list_room(to: &[usize], gap: &[usize], y: &[usize], next: &[usize], link: usize) -> usize {
-    let mut k = link;
-    let mut row = FAR;
+// The row up to which the edges of one list let their tail go; the last of all where there are none. A list is walked by its links.
+fn list_room(arcs: &Arcs<'_>, y: &[usize], next: &[usize], first: usize) -> usize
+    requires { arcs.now.n ≤ length y.now }
+{
+    let mut k = first;
+    let mut row = usize::MAX;
     while k > 0 {
-        row = smaller_of(row, edge_room(to, gap, y, k - 1));
+        row = row.min(edge_room(arcs, y, k - 1));
         k = next_link(next, k - 1);
     }
     row
 }
 
 // One node moved, in the first n entries of y.
-fn sink_node(
-    to: &[usize],
-    gap: &[usize],
-    n: usize,
-    y: &mut [usize],
-    net: &[usize],
-    out_head: &[usize],
-    out_next: &[usize],
-    v: usize,
-)
-    requires { n ≤ length y.old }
-    ensures { drop n y.new ≡ drop n y.old }
+fn sink_node(arcs: &Arcs<'_>, y: &mut [usize], pull: &[usize], outs: &Links<'_>, v: usize)
+    requires { arcs.now.n ≤ length y.old }
+    ensures { drop arcs.now.n y.new ≡ drop arcs.now.n y.old }
 {
-    if v >= n {
+    if v >= arcs.n {
         return;
     }
-    let more = read_entry(net, v);
-    if more == 0 {
+    let more = pull.get(v).copied().unwrap_or(0);
+    if more == 0 || more >= BELOW_ZERO {
         return;
     }
-    if more >= BELOW_ZERO {
-        return;
-    }
-    y[v] = list_room(to, gap, y, out_next, read_entry(out_head, v));
+    let first = outs.head.get(v).copied().unwrap_or(0);
+    y[v] = list_room(arcs, y, outs.next, first);
 }
 
-// The nodes moved, in their order. `net` is scratch.
+// The nodes moved, in their order. `pull` is scratch.
 pub fn sink_nodes(
-    from: &[usize],
-    to: &[usize],
-    gap: &[usize],
-    weight: &[usize],
-    n: usize,
+    net: &Net<'_>,
     y: &mut [usize],
-    net: &mut [usize],
-    out_head: &[usize],
-    out_next: &[usize],
+    pull: &mut [usize],
+    outs: &Links<'_>,
     order: &[usize],
 )
-    requires { n ≤ length y.old }
-    ensures { drop n y.new ≡ drop n y.old }
+    requires { net.now.arcs.n ≤ length y.old }
+    ensures { drop net.now.arcs.n y.new ≡ drop net.now.arcs.n y.old }
 {
-    weigh_nodes(from, to, weight, net);
-    let mut i = 0;
-    while i < order.len() {
-        sink_node(to, gap, n, y, net, out_head, out_next, order[i]);
-        i += 1;
+    weigh_nodes(net, pull);
+    for &v in order {
+        sink_node(&net.arcs, y, pull, outs, v);
     }
 }

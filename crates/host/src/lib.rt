@@ -1,6 +1,7 @@
 // The calls for C. Slices are a pointer and a length; answers are packed into one word, beside which a stroke has its two floats. Each
 // contract says what the header's functions read out of the word, in the numbers that the call tells, which word it is, and what the lent
-// buffers hold at the end. All of it is in the specs of `words` and of the layers below.
+// buffers hold at the end. All of it is in the specs of `words` and of the layers below. Each call is one match of an answer to its word, as
+// the C interface has it.
 #![tactic(auto)]
 
 ghost use Rattle.std.specs.Prelude.{◌≡◌};
@@ -17,15 +18,10 @@ ghost use Rattle.strokes.specs.Calls.{stroke_call};
 ghost use Rattle.plain.specs.Plain.{stroke_numbers, plain_answer, PlainExact};
 ghost use Rattle.words.specs.Words.{counts_read, counts_word, name_read, name_word, written_read, points_read, stroke_read, done_read, done_word, chart_read, chart_word, order_read, order_word};
 
-use coordinates::XsAnswer;
-use ordering::ChartAnswer;
 use plain::{PlainStroke, plain_answer};
-use queries::types::{CountsAnswer, NameAnswer};
-use rearranging::OrderAnswer;
-use rows::types::{Row, RowsAnswer};
+use rows::types::Row;
 use table::rule::Rule;
 use words::{chart_word, counts_word, name_word, order_word, refusal_word, written_word};
-use writing::WriteAnswer;
 
 // The steps and the edges of a table.
 #[unsafe(no_mangle)]
@@ -34,8 +30,8 @@ pub extern "C" fn yuvatondro_counts(table: &[u8]) -> u64
     ensures value { result ≡ counts_word (counts_call table.now) }
 {
     match queries::count_table(table) {
-        CountsAnswer::Refused(f) => refusal_word(f),
-        CountsAnswer::Counted(c) => counts_word(c.steps, c.edges),
+        Ok(c) => counts_word(c.steps, c.edges),
+        Err(f) => refusal_word(f),
     }
 }
 
@@ -46,8 +42,8 @@ pub extern "C" fn yuvatondro_name(table: &[u8], step: usize) -> u64
     ensures value { result ≡ name_word (name_call table.now step) }
 {
     match queries::find_name(table, step) {
-        NameAnswer::Refused(f) => refusal_word(f),
-        NameAnswer::At(start, len) => name_word(start, len),
+        Ok(name) => name_word(name.start, name.len),
+        Err(f) => refusal_word(f),
     }
 }
 
@@ -78,8 +74,8 @@ fn write_by(rule: Rule, table: &[u8], out: &mut [u8]) -> u64
     ensures out_after { out.new ≡ (write_call_by rule table.now out.old).out }
 {
     match writing::write_table_by(rule, table, out) {
-        WriteAnswer::Refused(f) => refusal_word(f),
-        WriteAnswer::Written(len) => written_word(len),
+        Ok(len) => written_word(len),
+        Err(f) => refusal_word(f),
     }
 }
 
@@ -92,8 +88,8 @@ pub extern "C" fn yuvatondro_rows(table: &[u8], rows: &mut [Row]) -> u64
     ensures table_best { TableBest table.now (done_read result) rows.new }
 {
     match layering::find_rows(table, rows) {
-        RowsAnswer::Refused(f) => refusal_word(f),
-        RowsAnswer::Done => 0,
+        Ok(()) => 0,
+        Err(f) => refusal_word(f),
     }
 }
 
@@ -106,8 +102,8 @@ pub extern "C" fn yuvatondro_records(steps: usize, records: &[usize], rows: &mut
     ensures records_best { RecordsBest steps (records_of records.now) (done_read result) rows.new }
 {
     match edgelist::find_rows_of_numbers(steps, records, rows) {
-        RowsAnswer::Refused(f) => refusal_word(f),
-        RowsAnswer::Done => 0,
+        Ok(()) => 0,
+        Err(f) => refusal_word(f),
     }
 }
 
@@ -121,8 +117,8 @@ pub extern "C" fn yuvatondro_chart(table: &[u8], rows: &mut [Row], order: &mut [
     ensures chart_best { ChartBest table.now (chart_read result) rows.new }
 {
     match ordering::draw_chart(table, rows, order) {
-        ChartAnswer::Refused(f) => refusal_word(f),
-        ChartAnswer::Drawn(f) => chart_word(f.points, f.total, f.crossings),
+        Ok(figures) => chart_word(figures.points, figures.total, figures.crossings),
+        Err(f) => refusal_word(f),
     }
 }
 
@@ -140,8 +136,8 @@ pub extern "C" fn yuvatondro_row_order(
     ensures order_shown { OrderShown table.now row tries (order_read result) order.new }
 {
     match rearranging::find_order(table, row, tries, order) {
-        OrderAnswer::Refused(f) => refusal_word(f),
-        OrderAnswer::Ordered(f) => order_word(f.points, f.crossings, f.floor),
+        Ok(figures) => order_word(figures.points, figures.crossings, figures.floor),
+        Err(f) => refusal_word(f),
     }
 }
 
@@ -154,8 +150,8 @@ pub extern "C" fn yuvatondro_xs(table: &[u8], xs: &mut [u16]) -> u64
     ensures xs_best { XsBest table.now (points_read result) xs.new }
 {
     match coordinates::find_xs(table, xs) {
-        XsAnswer::Refused(f) => refusal_word(f),
-        XsAnswer::Spaced(points) => written_word(points),
+        Ok(points) => written_word(points),
+        Err(f) => refusal_word(f),
     }
 }
 

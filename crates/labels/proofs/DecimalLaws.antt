@@ -1,14 +1,16 @@
--- Numbers in decimal: what stands in front of the last digit, and how many digits there are.
-use mathlib.Core.Path.{◌≡◌, refl}
-use mathlib.Core.List.{[], ◌∷◌, ◌++◌}
-use Prim.Native.Nat.{ℕ, zero, suc, ◌*◌, ◌/◌, ◌%◌, ◌≤◌, ◌<◌}
+-- Numbers in decimal: the text that std has of one, and how many digits there are.
+use mathlib.Core.Path.{◌≡◌, refl, sym, ◌∙◌}
+use mathlib.Core.List.{[], ◌∷◌}
+use Prim.Native.Nat.{ℕ, zero, suc, ◌*◌, ◌/◌, ◌%◌, ◌^◌, ◌≤◌, ◌<◌}
 use native.Mathlib.Decide.{dec_lt}
 use native.Mathlib.Omega.{arith}
 use borrow.Author.Tests.{lt-ltb, le-ltb}
 use lib.ListN.{length, length-append}
+use Rattle.std.specs.Fmt.{decimal as text_of}
+use Rattle.std.proofs.lemmas.Fmt.{AppendsLastDigit, decimal_from_appends, length-decimal-le_succ}
 use Rattle.labels.specs.Text.{digit, digits, decimal}
 
--- ---- digit by digit
+-- ---- which digits
 
 -- a number's digits are the same for any bound that it does not exceed
 digits_same : (a b n : ℕ) → n ≤ a → n ≤ b → digits a n ≡ digits b n
@@ -18,17 +20,15 @@ digits_same zero (suc b) n h g = simp (lt-ltb n 10 (omega arith))
 digits_same (suc a) zero n h g = simp (lt-ltb n 10 (omega arith))
 digits_same (suc a) (suc b) n h g = rw (digits_same a b (n / 10) (omega arith) (omega arith))
 
--- below ten there is one digit
-pub decimal-one : (x : ℕ) → x < 10 → decimal x ≡ digit x ∷ []
+-- std's text of a number is the same
+digits-append : AppendsLastDigit digits
 unfolding digits
-decimal-one zero h = refl
-decimal-one (suc x) h = simp (lt-ltb (suc x) 10 h)
+digits-append = record { one = λ k n l. rw (lt-ltb n 10 l); more = λ k n l. rw (le-ltb n 10 l) }
 
--- from ten on the ones stand behind the digits of the tens
-pub decimal-more : (x : ℕ) → 10 ≤ x → decimal x ≡ decimal (x / 10) ++ digit (x % 10) ∷ []
-unfolding digits
-decimal-more zero h = absurd (omega arith)
-decimal-more (suc x) h = rw (le-ltb (suc x) 10 h, digits_same x (suc x / 10) (suc x / 10) (omega arith) (omega arith))
+pub decimal-text : (x : ℕ) → x < 2 ^ 64 → text_of x ≡ decimal x
+decimal-text x h =
+    sym (decimal_from_appends digits digits-append (suc x) x h (omega (arith, length-decimal-le_succ x h)))
+    ∙ digits_same (suc x) x x (omega arith) (omega arith)
 
 -- ---- how many
 

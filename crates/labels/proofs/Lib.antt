@@ -1,4 +1,3 @@
--- Laws by subject. A layer above wants DecimalLaws and PutLaws.
+-- Laws by subject. A layer above wants DecimalLaws and PageLaws.
 pub mod DecimalLaws
-pub mod PutLaws
-pub mod LabelLaws
+pub mod PageLaws

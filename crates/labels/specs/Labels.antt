@@ -1,12 +1,10 @@
 -- The text of a point: of a step its name and its kind, of a dummy the number of its edge.
-use Rattle.std.specs.Prelude.{◌≡◌, Bool, false, cond, List, ◌++◌, ℕ, ◌+◌, ◌-◌, ◌≤◌, ◌<◌, ltb, length, get_or, take, drop}
-use Rattle.graph.specs.Rows.{at}
+use Rattle.std.specs.Prelude.{Bool, false, cond, List, ◌++◌, ℕ, ◌+◌, ◌-◌, ◌≤◌, ◌<◌, ltb, length, get_or, take, drop}
 use Rattle.table.specs.declared.types.Kind.{Kind}
 use Rattle.table.specs.declared.types.Kind.TheVariants.{Check, Adjust, Wait}
 use Rattle.table.specs.declared.types.Step.{Step}
-use Rattle.table.specs.Limits.{max_steps, max_edges}
 use Rattle.table.specs.Calls.{no_step}
-use Rattle.buffers.specs.Lists.{Below}
+use Rattle.points.specs.declared.dummy.Dummy.{Dummy}
 use Rattle.labels.specs.Text.{text, decimal}
 
 -- what a kind prints: its letter, and the number that it carries
@@ -23,16 +21,20 @@ step_text bytes s = take s.len (drop s.start bytes) ++ text "=" ++ kind_text s.k
 abbrev pub dummy_text : Bool → ℕ → List ℕ
 dummy_text turned edge = cond turned (text "^") (text "|") ++ decimal edge
 
--- the text of point p, of n steps in an array and of dummies by the numbers of their edges, each edge with its flag
-abbrev pub label_text : List ℕ → List Step → ℕ → List ℕ → List Bool → ℕ → List ℕ
-label_text bytes steps n owners turned p =
-    cond (ltb p n) (step_text bytes (get_or steps p no_step)) (dummy_text (get_or turned (at owners (p - n)) false) (at owners (p - n)))
+-- what stands behind the last dummy
+abbrev pub no_dummy : Dummy
+no_dummy = record { edge = 0; row = 0 }
 
--- What printing point p asks for: it is one of n steps, whose name lies in the table, or a dummy, whose edge has a flag.
-pub record Labelled (bytes : List ℕ) (steps : List Step) (n : ℕ) (owners : List ℕ) (turned : List Bool) (p : ℕ) : Type 0 where
-  pub long : length steps ≡ max_steps
-  pub flags_long : length turned ≡ max_edges
-  pub few : n ≤ max_steps
-  pub name : p < n → (get_or steps p no_step).start + (get_or steps p no_step).len ≤ length bytes
-  pub inside : p < n + length owners
-  pub owned : Below max_edges owners
+-- a dummy as it is printed, with the flags of the edges
+abbrev pub dummy_sign : List Bool → Dummy → List ℕ
+dummy_sign turned d = dummy_text (get_or turned d.edge false) d.edge
+
+-- the points by number: the steps, and behind them the dummies
+abbrev pub label_text : List ℕ → List Step → List Dummy → List Bool → ℕ → List ℕ
+label_text bytes steps ds turned p =
+    cond (ltb p (length steps)) (step_text bytes (get_or steps p no_step)) (dummy_sign turned (get_or ds (p - length steps) no_dummy))
+
+-- What printing points asks for: the name of each step lies in the table, and the edge of each dummy has a flag.
+pub record Labelled (bytes : List ℕ) (steps : List Step) (ds : List Dummy) (turned : List Bool) : Type 0 where
+  pub names : (i : ℕ) → i < length steps → (get_or steps i no_step).start + (get_or steps i no_step).len ≤ length bytes
+  pub flags : (i : ℕ) → i < length ds → (get_or ds i no_dummy).edge < length turned

@@ -1,59 +1,42 @@
-// Bytes, words and numbers put into a buffer one behind the other. Each function answers where the next byte goes.
-ghost use Rattle.std.specs.Prelude.{[], ◌∷◌, map, ◌+◌, ◌≤◌, ◌<◌, length};
-ghost use Rattle.buffers.specs.Written.{Stored};
+// Words and numbers put at the end of a page of bytes, which has room for them.
+ghost use Rattle.std.specs.Prelude.{◌≡◌, ◌∷◌, ◌++◌, map, ◌+◌, ◌≤◌, length};
+ghost use Rattle.arrayvec.specs.ArrayVec.{array_vec_len};
 ghost use Rattle.labels.specs.Text.{decimal, blanked};
 
-// One byte.
-pub fn put_byte(b: u8, out: &mut [u8], at: usize) -> usize
-    requires { at < length out.old }
-    ensures { Stored out.old at (b ∷ []) out.new result }
+use arrayvec::ArrayVec;
+use itoa::Buffer;
+
+// All bytes of a text. It is the kit's call with the clause that there is room.
+pub fn put_text<const CAP: usize>(text: &[u8], page: &mut ArrayVec<u8, CAP>)
+    requires room { array_vec_len page.old + length text.now ≤ CAP }
+    ensures { page.new.items ≡ page.old.items ++ text.now }
 {
-    out[at] = b;
-    at + 1
+    let _fits = page.try_extend_from_slice(text);
 }
 
-// All bytes of a text.
-pub fn put_text(text: &[u8], out: &mut [u8], at: usize) -> usize
-    requires { at + length text.now ≤ length out.old }
-    ensures { Stored out.old at text.now out.new result }
+// A number in decimal.
+pub fn put_number<const CAP: usize>(x: usize, page: &mut ArrayVec<u8, CAP>)
+    requires room { array_vec_len page.old + length (decimal x) ≤ CAP }
+    ensures { page.new.items ≡ page.old.items ++ decimal x }
 {
-    let mut next = at;
-    for i in 0..text.len() {
-        out[next] = text[i];
-        next += 1;
-    }
-    next
-}
-
-// A number in decimal: its tens, then its ones.
-pub fn put_number(x: usize, out: &mut [u8], at: usize) -> usize
-    requires { at + length (decimal x) ≤ length out.old }
-    ensures { Stored out.old at (decimal x) out.new result }
-{
-    if x < 10 {
-        return put_byte(b'0' + x as u8, out, at);
-    }
-    let next = put_number(x / 10, out, at);
-    put_byte(b'0' + (x % 10) as u8, out, next)
+    put_text(Buffer::new().format(x).as_bytes(), page);
 }
 
 // A byte and a number.
-pub fn put_marked(mark: u8, x: usize, out: &mut [u8], at: usize) -> usize
-    requires { at + length (mark ∷ decimal x) ≤ length out.old }
-    ensures { Stored out.old at (mark ∷ decimal x) out.new result }
+pub fn put_marked<const CAP: usize>(mark: u8, x: usize, page: &mut ArrayVec<u8, CAP>)
+    requires room { array_vec_len page.old + length (mark ∷ decimal x) ≤ CAP }
+    ensures { page.new.items ≡ page.old.items ++ mark ∷ decimal x }
 {
-    let next = put_byte(mark, out, at);
-    put_number(x, out, next)
+    page.push(mark);
+    put_number(x, page);
 }
 
 // Some numbers, each behind a blank.
-pub fn put_fields(values: &[usize], out: &mut [u8], at: usize) -> usize
-    requires { at + length (blanked (map decimal values.now)) ≤ length out.old }
-    ensures { Stored out.old at (blanked (map decimal values.now)) out.new result }
+pub fn put_fields<const CAP: usize>(values: &[usize], page: &mut ArrayVec<u8, CAP>)
+    requires room { array_vec_len page.old + length (blanked (map decimal values.now)) ≤ CAP }
+    ensures { page.new.items ≡ page.old.items ++ blanked (map decimal values.now) }
 {
-    let mut next = at;
-    for i in 0..values.len() {
-        next = put_marked(b' ', values[i], out, next);
+    for value in values {
+        put_marked(b' ', *value, page);
     }
-    next
 }

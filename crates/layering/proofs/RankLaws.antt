@@ -1,53 +1,33 @@
 -- The rows of a table's edges, by whether some are soft and whether the must edges have a loop.
 use mathlib.Core.Path.{◌≡◌, refl, sym, ap, subst, ◌∙◌}
 use mathlib.Core.Bool.{Bool, true, false}
-use mathlib.Core.List.{List, []}
-use mathlib.Core.Option.{none, some}
-use Prim.Native.Nat.{ℕ, ◌-◌, ◌≤◌, ◌<◌}
+use mathlib.Core.List.{List}
+use Prim.Native.Nat.{ℕ, ◌≤◌, ◌<◌}
 use native.Mathlib.Omega.{arith}
 use lib.ListN.{length, get_or, take, replicate, length-replicate}
 use lib.Seq.{ext_get_or, get_or-take, length-take-le}
+use Rattle.std.specs.Prelude.{Some, None, Result, Ok, Err}
+use Rattle.std.proofs.lemmas.List.{get_or-replicate}
+use Rattle.arrayvec.specs.ArrayVec.{ArrayVec}
 use Rattle.graph.specs.declared.Edge.{Edge}
 use Rattle.graph.specs.declared.TableEdge.{TableEdge}
 use Rattle.graph.specs.Search.{rows_of}
 use Rattle.graph.specs.Directed.{own_edge, no_table_edge, plain_edges, directed, directed_by}
-use Rattle.graph.proofs.DirectedLaws.{directed-length, directed-same, directed-none, directed-each, directed-take, padded-get}
+use Rattle.graph.proofs.DirectedLaws.{directed-length, directed-each}
+use Rattle.outcome.specs.declared.Refusal.{Refusal}
 use Rattle.outcome.specs.declared.Refusal.TheVariants.{Loop}
-use Rattle.outcome.specs.Refusal.{Outcome, done, refused}
-use Rattle.table.specs.Limits.{max_steps, max_edges}
+use Rattle.outcome.specs.Refusal.{done}
+use Rattle.table.specs.Limits.{max_edges}
 use Rattle.table.specs.Fair.{FairEdge}
-use Rattle.buffers.specs.Padded.{padded}
-use Rattle.buffers.proofs.PaddedLaws.{padded-long}
 use Rattle.acyclic.specs.Loops.{lowest_on_loop}
 use Rattle.acyclic.specs.Oriented.{must_of, any_soft, oriented_edges, turned_edges}
 use Rattle.acyclic.proofs.OrientedLaws.{AllApart, oriented-none, firm-plain, firm-turned, firm-must, turned-length, directed-oriented}
 use Rattle.orientation.specs.Orientable.{Orientable}
-use Rattle.rows.specs.declared.types.RowsFound.{RowsFound}
 use Rattle.rows.specs.Answers.{rows_found}
-use Rattle.rows.specs.Placed.{FairEdges, no_rows, Placed, EdgesPlaced}
-use Rattle.rows.proofs.PlacedLaws.{placed-refused, loop-free}
-use Rattle.layering.specs.Calls.{table_rows_found, flag_array, EdgesRanked}
-
--- ---- flags
-
--- no flag is set
-abbrev pub no_flags : List Bool
-no_flags = replicate max_edges false
-
-no_flag : (i : ℕ) → get_or no_flags i false ≡ false
-no_flag i = padded-get [] max_edges i
-
--- flags in an array direct the edges as the flags themselves do
-pub padded-directs : (flags : List Bool) (edges : List TableEdge) → directed_by (padded max_edges false flags) edges ≡ directed_by flags edges
-unfolding padded
-padded-directs flags edges = directed-same (padded max_edges false flags) flags edges (λ i h. padded-get flags (max_edges - length flags) i)
-
--- an array of flags of which none is set
-pub flags-none : (flags : List Bool) → length flags ≤ max_edges → ((i : ℕ) → get_or flags i false ≡ false) → no_flags ≡ padded max_edges false flags
-unfolding padded
-flags-none flags few unset =
-    ext_get_or false _ _ (length-replicate {A = Bool} max_edges false ∙ sym (padded-long max_edges false flags few))
-    (λ i h. no_flag i ∙ sym (padded-get flags (max_edges - length flags) i ∙ unset i))
+use Rattle.rows.specs.declared.types.RowsFound.{RowsFound}
+use Rattle.rows.specs.Placed.{FairEdges, Placed, EdgesPlaced}
+use Rattle.rows.proofs.PlacedLaws.{loop-free}
+use Rattle.layering.specs.Calls.{table_rows_found, EdgesTurned}
 
 -- ---- rows that are found
 
@@ -71,13 +51,7 @@ directed-fair n e f true =
       weight_low = f.weight_low;
     }
 
--- a table's edges between n steps, all within the limits
-pub record FairTable (n : ℕ) (edges : List TableEdge) : Type 0 where
-  pub few_steps : n ≤ max_steps
-  pub few_edges : length edges ≤ max_edges
-  pub each : (i : ℕ) → i < length edges → FairEdge n (own_edge (get_or edges i no_table_edge))
-
-module _ (n : ℕ) (edges : List TableEdge) (fair : FairTable n edges) where
+module _ (n : ℕ) (edges : List TableEdge) (fair : Orientable n edges) where
   pub directed-edges-fair : (flags : List Bool) → FairEdges n (directed_by flags edges)
   directed-edges-fair flags =
       record {
@@ -104,66 +78,38 @@ module _ (n : ℕ) (edges : List TableEdge) (fair : FairTable n edges) where
     firm-found : rows_found n (oriented_edges n edges) ≡ table_rows_found n edges
     firm-found = ap (rows_found n) (firm-plain n edges firm) ∙ firm-rows
 
-    firm-directed : directed_by no_flags edges ≡ oriented_edges n edges
-    firm-directed = directed-none no_flags edges (λ i h. no_flag i) ∙ sym (firm-plain n edges firm)
+    -- no flag is set
+    firm-flags : take (length edges) (replicate max_edges false) ≡ turned_edges n edges
+    firm-flags =
+        ext_get_or false _ _ (length-take-le (length edges) (replicate max_edges false) (omega (arith, fair.few_edges, length-replicate {A = Bool} max_edges false)) ∙ sym (turned-length n edges))
+        (λ i h. unset i (omega (arith, length-take-le (length edges) (replicate max_edges false) (omega (arith, fair.few_edges, length-replicate {A = Bool} max_edges false)))) ∙ sym (firm-turned n edges firm i))
+      where
+        unset : (i : ℕ) → i < length edges → get_or (take (length edges) (replicate max_edges false)) i false ≡ false
+        unset i h = get_or-take (length edges) (replicate max_edges false) i false h ∙ get_or-replicate max_edges i false false (omega (arith, fair.few_edges))
 
-    firm-flags : (o : Outcome (List ℕ)) → no_flags ≡ flag_array n edges o
-    firm-flags (done rows) = flags-none _ (subst (λ k. k ≤ max_edges) (sym (turned-length n edges)) fair.few_edges) (firm-turned n edges firm)
-    firm-flags (refused r) = flags-none [] (omega arith) (λ i. refl)
+    pub turned-firm : {all turned : ArrayVec Bool} → all.items ≡ replicate max_edges false → turned.items ≡ take (length edges) all.items → EdgesTurned n edges (Ok turned)
+    turned-firm {all} {turned} e f = (f ∙ ap (take (length edges)) e ∙ firm-flags, firm-found)
 
-    pub ranked-firm : (f : RowsFound) → EdgesPlaced n (directed_by no_flags edges) f → EdgesRanked n edges no_flags f
-    ranked-firm f p =
-        record {
-          flags = firm-flags (table_rows_found n edges);
-          placed =
-              subst (λ o. Placed n (oriented_edges n edges) o f) firm-found (subst (λ l. EdgesPlaced n l f) firm-directed p);
-        }
+    firm-directed : directed_by (take (length edges) (replicate max_edges false)) edges ≡ oriented_edges n edges
+    firm-directed = ap (λ flags. directed_by flags edges) firm-flags ∙ directed-oriented n edges
+
+    -- with no flag set, what is found for the edges is what is found for the table's
+    pub ranked-firm : (r : Result RowsFound Refusal) → EdgesPlaced n (directed_by (take (length edges) (replicate max_edges false)) edges) r
+        → (take (length edges) (replicate max_edges false) ≡ turned_edges n edges) × Placed n (oriented_edges n edges) (table_rows_found n edges) r
+    ranked-firm r p = (firm-flags, subst (λ o. Placed n (oriented_edges n edges) o r) firm-found (subst (λ l. EdgesPlaced n l r) firm-directed p))
 
   -- ---- a loop of must edges
 
-  pub ranked-loop : {s : ℕ} → lowest_on_loop n (must_of edges) ≡ some s → (f : RowsFound) → f ≡ no_rows (Loop s) → EdgesRanked n edges no_flags f
+  pub turned-loop : {s : ℕ} → lowest_on_loop n (must_of edges) ≡ Some s → EdgesTurned n edges (Err (Loop s))
   unfolding table_rows_found
-  ranked-loop {s} e f h =
-      record {
-        flags = flags-none [] (omega arith) (λ i. refl) ∙ rw e refl;
-        placed = placed-refused n (oriented_edges n edges) _ f h (rw e refl);
-      }
+  turned-loop {s} e = rw e refl
 
   -- ---- none: the edges as kept or turned have no loop either
 
-  module _ (free : lowest_on_loop n (must_of edges) ≡ none) where
+  module _ (free : lowest_on_loop n (must_of edges) ≡ None) where
     soft-found : rows_found n (oriented_edges n edges) ≡ table_rows_found n edges
     unfolding rows_found table_rows_found
     soft-found = rw (oriented-none n edges fair-joining free, free)
 
-    pub ranked-soft : (turned : List Bool) → turned ≡ padded max_edges false (turned_edges n edges) → (f : RowsFound)
-        → EdgesPlaced n (directed_by turned edges) f → EdgesRanked n edges turned f
-    unfolding table_rows_found
-    ranked-soft turned e f p =
-        record {
-          flags = e ∙ rw free refl;
-          placed =
-              subst (λ o. Placed n (oriented_edges n edges) o f) soft-found
-              (subst (λ l. EdgesPlaced n l f) (ap (λ b. directed_by b edges) e ∙ padded-directs (turned_edges n edges) edges ∙ directed-oriented n edges) p);
-        }
-
--- ---- edges in an array
-
-module _ {n m : ℕ} {edges : List TableEdge} (o : Orientable n m edges) where
-  pub orientable-fair : FairTable n (take m edges)
-  orientable-fair =
-      record {
-        few_steps = o.few_steps;
-        few_edges = omega (arith, count, o.few_edges);
-        each = λ i h. let l : i < m = omega (arith, count) in
-            subst (λ (e : TableEdge). FairEdge n (own_edge e)) (sym (get_or-take m edges i no_table_edge l)) (o.each i l);
-      }
-    where
-      count : length (take m edges) ≡ m
-      count = length-take-le m edges (omega (arith, o.few_edges, o.long))
-
-  pub front-fair : (flags : List Bool) → FairEdges n (take m (directed_by flags edges))
-  front-fair flags = subst (FairEdges n) (sym (directed-take flags m edges)) (directed-edges-fair n (take m edges) orientable-fair flags)
-
-  pub front-placed : (flags : List Bool) {f : RowsFound} → EdgesPlaced n (take m (directed_by flags edges)) f → EdgesPlaced n (directed_by flags (take m edges)) f
-  front-placed flags {f} = subst (λ l. EdgesPlaced n l f) (directed-take flags m edges)
+    pub turned-soft : (turned : ArrayVec Bool) → turned.items ≡ turned_edges n edges → EdgesTurned n edges (Ok turned)
+    turned-soft turned e = (e, soft-found)

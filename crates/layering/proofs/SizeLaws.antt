@@ -10,7 +10,7 @@ use Rattle.table.specs.Limits.{old_size}
 use Rattle.outcome.specs.Refusal.{done, then_do}
 use Rattle.table.specs.Table.{Contents, contents_of, read_within}
 use Rattle.table.proofs.SizeLaws.{read-few, read-before}
-use Rattle.rows.specs.Placed.{old_top_row}
+use Rattle.rows.specs.Limits.{old_top_row}
 use Rattle.rows.proofs.HeightLaws.{rows-byte}
 use Rattle.layering.specs.Calls.{table_rows_found, rows_of_table, steps_in}
 use Rattle.layering.proofs.CallLaws.{table-rows}

@@ -1,19 +1,17 @@
 -- The calls of the row finder for a table: what each answers, and what the buffer lent for rows holds at its end.
-use Rattle.std.specs.Prelude.{◌≡◌, Bool, false, List, [], ℕ, length}
+use Rattle.std.specs.Prelude.{◌≡◌, Bool, List, [], ◌∷◌, ℕ, length, Result, Ok, Err}
+use Rattle.arrayvec.specs.ArrayVec.{ArrayVec}
 use Rattle.graph.specs.declared.Edge.{Edge}
 use Rattle.graph.specs.declared.TableEdge.{TableEdge}
+use Rattle.graph.specs.Rows.{at, total}
 use Rattle.graph.specs.Search.{rows_of}
-use Rattle.table.specs.declared.types.Table.{Table}
-use Rattle.table.specs.Limits.{max_steps, max_edges}
-use Rattle.outcome.specs.Refusal.{Outcome, done, refused, then_do, told, bare, verdict_numbers}
+use Rattle.outcome.specs.declared.Refusal.{Refusal}
+use Rattle.outcome.specs.Refusal.{Outcome, done, refused, then_do, numbers_of}
 use Rattle.table.specs.Table.{Contents, contents_of, read}
-use Rattle.table.specs.Calls.{read_call}
-use Rattle.buffers.specs.Padded.{padded}
-use Rattle.rows.specs.declared.types.RowsFound.{RowsFound}
+use Rattle.table.specs.Calls.{contents_in}
 use Rattle.acyclic.specs.Loops.{lowest_on_loop}
 use Rattle.acyclic.specs.Oriented.{must_of, oriented_edges, turned_edges}
-use Rattle.rows.specs.Answers.{unless_loop, rows_by, total_by, RowsEnd, rows_end, RowsBest}
-use Rattle.rows.specs.Placed.{Placed}
+use Rattle.rows.specs.Answers.{unless_loop, rows_found, RowsEnd, rows_end, RowsBest}
 use Rattle.layering.specs.declared.types.TableRows.{TableRows}
 
 -- ---- the rows call
@@ -49,53 +47,35 @@ rows_call bytes old = rows_end (rows_of_table bytes) old
 abbrev pub TableBest : List ℕ → List ℕ → List ℕ → Type 0
 TableBest bytes numbers rows = RowsBest (steps_in bytes) (edges_in bytes) numbers rows
 
--- what the functions behind the call answer: the rows of a table
-abbrev pub TablePlaced : List ℕ → RowsFound → Type 0
-TablePlaced bytes f = Placed (steps_in bytes) (edges_in bytes) (rows_of_table bytes) f
-
 -- ---- what a layer above builds on
 
--- which edges are turned; none where there are no rows
-abbrev pub flags_by : Outcome (List ℕ) → List Bool → List Bool
-flags_by (done rows) flags = flags
-flags_by (refused r) flags = []
+-- which edges of a table of n steps are turned: with these the rows of the edges are those of the table; or that the table is refused
+abbrev pub EdgesTurned : ℕ → List TableEdge → Result (ArrayVec Bool) Refusal → Type 0
+EdgesTurned n edges (Ok turned) = (turned.items ≡ turned_edges n edges) × (rows_found n (oriented_edges n edges) ≡ table_rows_found n edges)
+EdgesTurned n edges (Err r) = table_rows_found n edges ≡ refused r
 
--- the same in an array, whose others are not
-abbrev pub flag_array : ℕ → List TableEdge → Outcome (List ℕ) → List Bool
-flag_array n edges o = padded max_edges false (flags_by o (turned_edges n edges))
-
--- what is found for the edges of a table of n steps: which are turned, and the rows of all as kept or turned
-pub record EdgesRanked (n : ℕ) (edges : List TableEdge) (turned : List Bool) (f : RowsFound) : Type 0 where
-  pub flags : turned ≡ flag_array n edges (table_rows_found n edges)
-  pub placed : Placed n (oriented_edges n edges) (table_rows_found n edges) f
-
--- the numbers of the outcome, the table, which of its edges are turned, its rows in an array, and their total
+-- the numbers of the outcome, the steps and edges of the table, which edges are turned, the rows, and their total
 pub record PlaceEnd : Type 0 where
   pub numbers : List ℕ
-  pub table : Table
+  pub contents : Contents
   pub turned : List Bool
   pub rows : List ℕ
   pub sum : ℕ
 
--- 0 or the refusal's number. Flags and rows stand in the first entries of their arrays, one an edge and one a step, and the others are
--- blank.
+-- with a refusal comes no table, and there are no flags and no rows
+abbrev pub place_refused : Refusal → PlaceEnd
+place_refused r = record { numbers = numbers_of r; contents = contents_of (refused r); turned = []; rows = []; sum = 0 }
+
+-- a table and its rows: one flag an edge, one row a step
+abbrev pub place_by : Contents → Outcome (List ℕ) → PlaceEnd
+place_by t (done rows) = record { numbers = 0 ∷ []; contents = t; turned = turned_in t; rows = rows; sum = total (oriented_in t) (at rows) }
+place_by t (refused r) = place_refused r
+
 unfoldable pub place_call : List ℕ → PlaceEnd
-place_call bytes =
-    record {
-      numbers = told bare (rows_of_table bytes);
-      table = (read_call bytes).table;
-      turned = flag_array (steps_in bytes) (contents_of (read bytes)).edges (rows_of_table bytes);
-      rows = padded max_steps 0 (rows_by (rows_of_table bytes));
-      sum = total_by (edges_in bytes) (rows_of_table bytes);
-    }
+place_call bytes = place_by (contents_of (read bytes)) (rows_of_table bytes)
 
 -- what the code answers, in numbers
-abbrev pub place_end : TableRows → PlaceEnd
-place_end r =
-    record {
-      numbers = verdict_numbers r.found.verdict;
-      table = r.table;
-      turned = r.turned;
-      rows = r.found.rows;
-      sum = r.found.total;
-    }
+abbrev pub place_end : Result TableRows Refusal → PlaceEnd
+place_end (Ok r) =
+    record { numbers = 0 ∷ []; contents = contents_in r.table; turned = r.turned.items; rows = r.found.rows.items; sum = r.found.total }
+place_end (Err r) = place_refused r

@@ -1,21 +1,21 @@
--- The dummies laid edge by edge: those of the first edges are in the arrays, and the rest is to come.
-use mathlib.Core.Path.{◌≡◌, refl, sym, ap, ◌∙◌}
+-- The dummies laid edge by edge: those of the first edges are laid, and the rest is to come.
+use mathlib.Core.Path.{◌≡◌, refl, sym, ap, ◌∙◌, subst}
 use mathlib.Core.Bool.{Bool}
 use mathlib.Core.List.{List, [], ◌∷◌, ◌++◌, map}
 use Prim.Native.Nat.{ℕ, suc, ◌+◌, ◌-◌, ◌≤◌, ◌<◌}
 use native.Mathlib.Numerals.{add-one}
-use native.Mathlib.Omega.{arith}
-use lib.ListN.{length, get_or, take, drop, drop_of_length-le, length-map}
-use lib.Seq.{drop-cons, get_or-take, length-take-le}
+use lib.ListN.{length, get_or, drop, drop_of_length-le, length-map}
+use lib.Seq.{drop-cons}
 use Rattle.graph.specs.declared.Edge.{Edge}
 use Rattle.graph.specs.Rows.{at, no_edge}
 use Rattle.graph.specs.Search.{run}
 use Rattle.merging.specs.declared.MergedEdge.{MergedEdge}
 use Rattle.merging.specs.Merged.{no_merged_edge, drawn_edge, drawn_edges}
-use Rattle.merging.proofs.SameLaws.{drawn-length, drawn-get}
-use Rattle.points.specs.Points.{Dummy, dummies}
-use Rattle.buffers.proofs.RunLaws.{run_length}
-use Rattle.lines.specs.Printing.{numbered, owners_of, dummy_rows}
+use Rattle.merging.proofs.SameLaws.{drawn-get}
+use Rattle.points.specs.declared.dummy.Dummy.{Dummy}
+use Rattle.points.specs.Points.{dummies}
+use Rattle.labels.proofs.PageLaws.{Parts}
+use Rattle.lines.specs.Printing.{numbered, dummies_on, Layable}
 
 map-append : {A B : Type 0} (f : A → B) (xs ys : List A) → map f (xs ++ ys) ≡ map f xs ++ map f ys
 map-append f [] ys = refl
@@ -25,83 +25,54 @@ map-map : {A B C : Type 0} (f : B → C) (g : A → B) (xs : List A) → map f (
 map-map f g [] = refl
 map-map f g (x ∷ xs) = ap (f (g x) ∷◌) (map-map f g xs)
 
-map_same : (xs : List ℕ) → map (λ x. x) xs ≡ xs
-map_same [] = refl
-map_same (x ∷ xs) = ap (x ∷◌) (map_same xs)
-
--- ---- the first merged edges of an array, each kept or turned as its first edge is
-
-module _ (turned : List Bool) (list : List MergedEdge) (count : ℕ) (few : count ≤ length list) where
-  pub laid-count : length (drawn_edges turned (take count list)) ≡ count
-  laid-count = drawn-length turned (take count list) ∙ length-take-le count list few
-
-  -- merged edge i of the array, directed by its own flag, is edge i of these
-  pub laid-edge : (i : ℕ) → i < count → {d : Edge} → d ≡ drawn_edge turned (get_or list i no_merged_edge)
-      → get_or (drawn_edges turned (take count list)) i no_edge ≡ d
-  laid-edge i h {d} e =
-      drawn-get turned (take count list) i (omega (arith, length-take-le count list few))
-      ∙ ap (λ (x : MergedEdge). drawn_edge turned x) (get_or-take count list i no_merged_edge h) ∙ sym e
-
 -- ---- edge by edge
 
 -- the rows between the ends of an edge
 abbrev pub rows_between : List ℕ → Edge → List ℕ
 rows_between ys e = run (suc (at ys e.from)) (at ys e.to - at ys e.from - 1)
 
-module _ (ys : List ℕ) (e : Edge) where
-  pub between-length : length (rows_between ys e) ≡ at ys e.to - at ys e.from - 1
-  between-length = run_length _ _
+pub dummies-length : (edge : ℕ) (rows : List ℕ) → length (dummies_on edge rows) ≡ length rows
+dummies-length edge rows = length-map rows (λ (r : ℕ). record { edge = edge; row = r })
 
-  pub owners-length : (i : ℕ) → length (map (λ (_ : ℕ). i) (rows_between ys e)) ≡ at ys e.to - at ys e.from - 1
-  owners-length i = length-map (rows_between ys e) (λ (_ : ℕ). i) ∙ between-length
-
--- the numbers of the first edges, and the rows, which numbering leaves
-abbrev owner_of : List MergedEdge → Dummy → ℕ
-owner_of list d = (get_or list d.edge no_merged_edge).first
-
-owners-numbered : (list : List MergedEdge) (ds : List Dummy) → owners_of (numbered list ds) ≡ map (owner_of list) ds
+pub numbered-count : (list : List MergedEdge) (ds : List Dummy) → length (numbered list ds) ≡ length ds
 unfolding numbered
-owners-numbered list ds = map-map (λ (d : Dummy). d.edge) (λ (d : Dummy). record { edge = (get_or list d.edge no_merged_edge).first; row = d.row }) ds
+numbered-count list ds = length-map ds (λ (d : Dummy). record { edge = (get_or list d.edge no_merged_edge).first; row = d.row })
 
-pub rows-numbered : (list : List MergedEdge) (ds : List Dummy) → dummy_rows (numbered list ds) ≡ dummy_rows ds
-unfolding numbered
-rows-numbered list ds = map-map (λ (d : Dummy). d.row) (λ (d : Dummy). record { edge = (get_or list d.edge no_merged_edge).first; row = d.row }) ds
-
-pub owners-count : (list : List MergedEdge) (ds : List Dummy) → length (owners_of (numbered list ds)) ≡ length ds
-owners-count list ds = ap length (owners-numbered list ds) ∙ length-map ds (owner_of list)
-
-pub no-owners : (list : List MergedEdge) → owners_of (numbered list []) ≡ []
-unfolding numbered
-no-owners list = refl
-
-module _ (ys : List ℕ) (edges : List Edge) (i : ℕ) where
+module _ (list : List MergedEdge) (ys : List ℕ) (edges : List Edge) (i : ℕ) where
   -- the dummies of the edges from number i on
   abbrev pub still : List Dummy
-  still = dummies ys i (drop i edges)
+  still = numbered list (dummies ys i (drop i edges))
 
   abbrev pub later : List Dummy
-  later = dummies ys (i + 1) (drop (i + 1) edges)
+  later = numbered list (dummies ys (i + 1) (drop (i + 1) edges))
 
-  module _ (h : i < length edges) (e : Edge) (p : get_or edges i no_edge ≡ e) where
-    lay-turn : still ≡ map (λ r. record { edge = i; row = r }) (rows_between ys e) ++ later
-    unfolding dummies
-    lay-turn = ap (dummies ys i) (drop-cons edges i no_edge h) ∙ rw (p, add-one i)
+  pub next-laid : {e : Edge} → i < length edges → get_or edges i no_edge ≡ e
+      → Parts still (dummies_on (get_or list i no_merged_edge).first (rows_between ys e)) later
+  unfolding dummies numbered
+  next-laid {e} h p =
+      let own : Dummy → Dummy = λ d. record { edge = (get_or list d.edge no_merged_edge).first; row = d.row } in
+      record {
+        is =
+            ap (λ (l : List Edge). map own (dummies ys i l)) (drop-cons edges i no_edge h)
+            ∙ rw (p, add-one i)
+            (map-append own (dummies_on i (rows_between ys e)) (dummies ys (suc i) (drop (suc i) edges))
+            ∙ ap (◌++ map own (dummies ys (suc i) (drop (suc i) edges))) (map-map own (λ r. record { edge = i; row = r }) (rows_between ys e)));
+      }
 
-    pub owners-turn : (list : List MergedEdge) {first : ℕ} → (get_or list i no_merged_edge).first ≡ first
-        → owners_of (numbered list still) ≡ map (λ (_ : ℕ). first) (rows_between ys e) ++ owners_of (numbered list later)
-    owners-turn list {first} q =
-        let here : List Dummy = map (λ r. record { edge = i; row = r }) (rows_between ys e) in
-        owners-numbered list still ∙ ap (λ (l : List Dummy). map (owner_of list) l) lay-turn ∙ map-append (owner_of list) here later
-        ∙ ap (◌++ map (owner_of list) later) (map-map (owner_of list) (λ r. record { edge = i; row = r }) (rows_between ys e))
-        ∙ ap (λ (k : ℕ). map (λ (_ : ℕ). k) (rows_between ys e) ++ map (owner_of list) later) q
-        ∙ ap (λ (l : List ℕ). map (λ (_ : ℕ). first) (rows_between ys e) ++ l) (sym (owners-numbered list later))
+  pub last-laid : length edges ≤ i → still ≡ []
+  unfolding dummies numbered
+  last-laid h = ap (λ (l : List Edge). numbered list (dummies ys i l)) (drop_of_length-le edges {i = i} h)
 
-    pub rows-turn : dummy_rows still ≡ rows_between ys e ++ dummy_rows later
-    rows-turn =
-        ap dummy_rows lay-turn ∙ map-append (λ (d : Dummy). d.row) (map (λ r. record { edge = i; row = r }) (rows_between ys e)) later
-        ∙ ap (◌++ dummy_rows later)
-        (map-map (λ (d : Dummy). d.row) (λ r. record { edge = i; row = r }) (rows_between ys e) ∙ map_same (rows_between ys e))
+-- an edge that leads down between rows that are given
+pub record Downward (ys : List ℕ) (e : Edge) : Type 0 where
+  pub from_in : e.from < length ys
+  pub to_in : e.to < length ys
+  pub down : at ys e.from < at ys e.to
 
-  pub lay-end : length edges ≤ i → still ≡ []
-  unfolding dummies
-  lay-end h = ap (dummies ys i) (drop_of_length-le edges {i = i} h)
+-- merged edge i, directed by its own flag, is edge i of those that are drawn, and leads down
+module _ {list : List MergedEdge} {turned : List Bool} {ys : List ℕ} (g : Layable list turned ys) (i : ℕ) (h : i < length list) {d : Edge} (e : d ≡ drawn_edge turned (get_or list i no_merged_edge)) where
+  pub laid-edge : get_or (drawn_edges turned list) i no_edge ≡ d
+  laid-edge = drawn-get turned list i h ∙ sym e
+
+  pub laid-down : Downward ys d
+  laid-down = subst (Downward ys) laid-edge (record { from_in = g.from_in i h; to_in = g.to_in i h; down = g.down i h })

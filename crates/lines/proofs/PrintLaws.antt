@@ -1,5 +1,5 @@
--- What each turn of the printing loops meets.
-use mathlib.Core.Path.{◌≡◌, refl, sym, ap, ◌∙◌, subst}
+-- The points in front that stand in a row, and the lines of the rows.
+use mathlib.Core.Path.{◌≡◌, refl, ap, ◌∙◌, subst}
 use mathlib.Core.Bool.{Bool, true, false, cond}
 use mathlib.Core.List.{List, [], ◌∷◌, ◌++◌, map}
 use Prim.Native.Nat.{ℕ, suc, ◌+◌, ◌-◌, ◌≤◌, ◌<◌}
@@ -7,21 +7,14 @@ use native.Mathlib.Numerals.{add-one}
 use native.Mathlib.Omega.{arith}
 use borrow.Author.Tests.{eq-eqb, ne_eqb}
 use lib.Dec.{eqb}
-use lib.ListN.{length, drop, drop_of_length-le, length-drop}
-use lib.Seq.{drop-cons, drop-drop, get_or-append-add}
+use lib.ListN.{length, take, drop, drop_of_length-le, length-drop, length-append}
+use lib.Seq.{drop-cons, get_or-take, get_or-drop}
 use Rattle.graph.specs.Rows.{at}
-use Rattle.table.specs.declared.types.Step.{Step}
-use Rattle.buffers.specs.Written.{Stored}
-use Rattle.buffers.proofs.WriteLaws.{Writing, writing_start, writing-part, writing-room}
+use Rattle.buffers.specs.Lists.{Below}
 use Rattle.labels.specs.Text.{blank, newline, decimal, blanked}
-use Rattle.labels.specs.Labels.{Labelled}
-use Rattle.lines.specs.Printing.{Sheet, leading, fields_in, line_in, lines_from}
-
--- the row of a dummy stands behind those of the steps
-pub at-behind : (ys rows : List ℕ) (p : ℕ) → length ys ≤ p → at (ys ++ rows) p ≡ at rows (p - length ys)
-at-behind ys rows p h =
-    let e : p ≡ length ys + (p - length ys) = omega arith in
-    ap (at (ys ++ rows)) e ∙ get_or-append-add ys rows (p - length ys) 0
+use Rattle.labels.proofs.PageLaws.{Parts}
+use Rattle.lines.specs.Lines.{line}
+use Rattle.lines.specs.Printing.{leading, behind, line_in, lines_from}
 
 -- ---- the points of a row
 
@@ -33,82 +26,32 @@ leading-stop : (ys : List ℕ) (r p : ℕ) (ps : List ℕ) → (at ys p ≡ r �
 unfolding leading
 leading-stop ys r p ps e = rw (ne_eqb (at ys p) r e)
 
-module _ (ys : List ℕ) (r : ℕ) (order : List ℕ) (i : ℕ) where
-  front : i < length order → drop i order ≡ at order i ∷ drop (i + 1) order
-  front h = rw (add-one i) (drop-cons order i 0 h)
+module _ (ys : List ℕ) (r : ℕ) (ps : List ℕ) (i : ℕ) where
+  front : i < length ps → drop i ps ≡ at ps i ∷ drop (i + 1) ps
+  front h = rw (add-one i) (drop-cons ps i 0 h)
 
-  pub leading-turn : i < length order → at ys (at order i) ≡ r → leading ys r (drop i order) ≡ at order i ∷ leading ys r (drop (i + 1) order)
-  leading-turn h e = ap (leading ys r) (front h) ∙ leading-more ys r (at order i) (drop (i + 1) order) e
+  pub leading-turn : i < length ps → at ys (at ps i) ≡ r → leading ys r (drop i ps) ≡ at ps i ∷ leading ys r (drop (i + 1) ps)
+  leading-turn h e = ap (leading ys r) (front h) ∙ leading-more ys r (at ps i) (drop (i + 1) ps) e
 
-  pub leading-other : i < length order → (at ys (at order i) ≡ r → ⊥) → leading ys r (drop i order) ≡ []
-  leading-other h e = ap (leading ys r) (front h) ∙ leading-stop ys r (at order i) (drop (i + 1) order) e
+  pub leading-other : i < length ps → (at ys (at ps i) ≡ r → ⊥) → leading ys r (drop i ps) ≡ []
+  leading-other h e = ap (leading ys r) (front h) ∙ leading-stop ys r (at ps i) (drop (i + 1) ps) e
 
-  pub leading_end : length order ≤ i → leading ys r (drop i order) ≡ []
+  pub leading_end : length ps ≤ i → leading ys r (drop i ps) ≡ []
   unfolding leading
-  leading_end h = ap (leading ys r) (drop_of_length-le order h)
+  leading_end h = ap (leading ys r) (drop_of_length-le ps h)
 
-  module _ (show : ℕ → List ℕ) where
-    pub fields-turn : i < length order → at ys (at order i) ≡ r
-        → fields_in show ys r (drop i order) ≡ (blank ∷ show (at order i)) ++ fields_in show ys r (drop (i + 1) order)
-    unfolding fields_in blanked
-    fields-turn h e = ap (λ ps. blanked (map show ps)) (leading-turn h e)
+-- they are the first ones
+pub leading-front : (ys : List ℕ) (r : ℕ) (ps : List ℕ) → take (length (leading ys r ps)) ps ≡ leading ys r ps
+unfolding leading
+leading-front ys r [] = refl
+leading-front ys r (p ∷ ps) = go (eqb (at ys p) r) (leading-front ys r ps)
+  where
+    go : (b : Bool) → take (length (leading ys r ps)) ps ≡ leading ys r ps
+        → take (length (cond b (p ∷ leading ys r ps) [])) (p ∷ ps) ≡ cond b (p ∷ leading ys r ps) []
+    go true e = ap (p ∷◌) e
+    go false e = refl
 
-    pub fields-none : leading ys r (drop i order) ≡ [] → fields_in show ys r (drop i order) ≡ []
-    unfolding fields_in blanked
-    fields-none e = ap (λ ps. blanked (map show ps)) e
-
-    -- ---- the rows
-
-    -- a line in its parts
-    pub line-parts : line_in show ys r (drop i order) ≡ decimal r ++ fields_in show ys r (drop i order) ++ newline ∷ []
-    unfolding line_in fields_in
-    line-parts = refl
-
-    pub line-stored : {l l₁ : List ℕ} {a b : ℕ} → Stored l a (decimal r ++ fields_in show ys r (drop i order) ++ newline ∷ []) l₁ b
-        → Stored l a (line_in show ys r (drop i order)) l₁ b
-    line-stored {l} {l₁} {a} {b} s = subst (λ t. Stored l a t l₁ b) (sym line-parts) s
-
-    pub lines-turn : (height : ℕ) → r < height
-        → lines_from show ys r (height - r) (drop i order)
-        ≡ line_in show ys r (drop i order) ++ lines_from show ys (r + 1) (height - (r + 1)) (drop (i + length (leading ys r (drop i order))) order)
-    unfolding lines_from
-    lines-turn height h =
-        let k : height - r ≡ suc (height - (r + 1)) = omega arith in
-        ap (λ j. lines_from show ys r j (drop i order)) k
-        ∙ ap (λ (ps : List ℕ). line_in show ys r (drop i order) ++ lines_from show ys (suc r) (height - (r + 1)) ps)
-        (drop-drop (length (leading ys r (drop i order))) i order)
-        ∙ rw (add-one r)
-
-    pub lines_end : (height : ℕ) → height ≤ r → lines_from show ys r (height - r) (drop i order) ≡ []
-    unfolding lines_from
-    lines_end height h = let k : height - r ≡ 0 = omega arith in rw k
-
-    -- a line more is written, and the next points start at entry j
-    pub lines_next : (height : ℕ) → r < height → {old vs l l' : List ℕ} {a p p' j : ℕ} → j ≡ i + length (leading ys r (drop i order))
-        → Writing old a vs l p (lines_from show ys r (height - r) (drop i order)) → Stored l p (line_in show ys r (drop i order)) l' p'
-        → Writing old a vs l' p' (lines_from show ys (r + 1) (height - (r + 1)) (drop j order))
-    lines_next height h {old} {vs} {l} {l'} {a} {p} {p'} e w s =
-        subst (λ k. Writing old a vs l' p' (lines_from show ys (r + 1) (height - (r + 1)) (drop k order))) (sym e)
-        (writing-part (line_in show ys r (drop i order)) _ (lines-turn height h) w s)
-
-    -- there is room for it
-    pub lines-room : (height : ℕ) → r < height → {old vs l : List ℕ} {a p : ℕ} → Writing old a vs l p (lines_from show ys r (height - r) (drop i order))
-        → p + length (line_in show ys r (drop i order)) ≤ length l
-    lines-room height h w =
-        writing-room (line_in show ys r (drop i order))
-        (lines_from show ys (r + 1) (height - (r + 1)) (drop (i + length (leading ys r (drop i order))) order)) (lines-turn height h) w
-
--- all lines are to come at first
-pub lines_start : (show : ℕ → List ℕ) (ys order : List ℕ) (height : ℕ) (old : List ℕ) (a : ℕ)
-    → a + length (lines_from show ys 0 height order) ≤ length old
-    → Writing old a (lines_from show ys 0 height order) old a (lines_from show ys 0 (height - 0) (drop 0 order))
-lines_start show ys order height old a h =
-    let e : height ≡ height - 0 = omega arith in
-    subst (λ k. Writing old a (lines_from show ys 0 height order) old a (lines_from show ys 0 k order)) e
-    (writing_start old a (lines_from show ys 0 height order) h)
-
--- no more points are in front than there are
-leading-few : (ys : List ℕ) (r : ℕ) (ps : List ℕ) → length (leading ys r ps) ≤ length ps
+pub leading-few : (ys : List ℕ) (r : ℕ) (ps : List ℕ) → length (leading ys r ps) ≤ length ps
 unfolding leading
 leading-few ys r [] = omega arith
 leading-few ys r (p ∷ ps) = go (eqb (at ys p) r) (leading-few ys r ps)
@@ -117,21 +60,68 @@ leading-few ys r (p ∷ ps) = go (eqb (at ys p) r) (leading-few ys r ps)
     go true h = omega arith
     go false h = omega arith
 
-pub leading-inside : (ys : List ℕ) (r : ℕ) (order : List ℕ) (i : ℕ) → i ≤ length order → i + length (leading ys r (drop i order)) ≤ length order
-leading-inside ys r order i h = omega (arith, leading-few ys r (drop i order), length-drop i order)
+-- the points are parted where the row ends
+module _ (ys : List ℕ) (r : ℕ) (ps : List ℕ) {k : ℕ} (e : k ≡ length (leading ys r ps)) where
+  pub parted-front : {row : List ℕ} → row ≡ take k ps → row ≡ leading ys r ps
+  parted-front f = f ∙ ap (λ n. take n ps) e ∙ leading-front ys r ps
 
--- ---- a point
+  pub parted-back : {rest : List ℕ} → rest ≡ drop k ps → rest ≡ behind ys r ps
+  parted-back f = f ∙ ap (λ n. drop n ps) e
 
--- each point of a sheet can be printed
-pub sheet-label : (bytes : List ℕ) (steps : List Step) (ys owners : List ℕ) (turned : List Bool) (rows order : List ℕ)
-    → Sheet bytes steps ys owners turned rows order → (i : ℕ) → i < length order
-    → Labelled bytes steps (length ys) owners turned (at order i)
-sheet-label bytes steps ys owners turned rows order s i h =
-    record {
-      long = s.long;
-      flags_long = s.flags_long;
-      few = s.few;
-      name = λ l. s.names (at order i) l;
-      inside = omega (arith, s.points.below i h, s.owners_long);
-      owned = s.owned;
-    }
+-- those in front and those behind are points of the chart as well
+module _ {n : ℕ} (ys : List ℕ) (r : ℕ) {ps : List ℕ} (b : Below n ps) where
+  pub leading-below : Below n (leading ys r ps)
+  leading-below =
+      subst (Below n) (leading-front ys r ps)
+      (record {
+        below = λ i h. let inside : i < length (leading ys r ps) = omega (arith, ap length (leading-front ys r ps)) in
+            rw (get_or-take (length (leading ys r ps)) ps i 0 inside) (b.below i (omega (arith, leading-few ys r ps)));
+      })
+
+  pub behind-below : Below n (behind ys r ps)
+  behind-below =
+      record {
+        below = λ i h. let inside : length (leading ys r ps) + i < length ps = omega (arith, length-drop (length (leading ys r ps)) ps) in
+            rw (get_or-drop (length (leading ys r ps)) ps i 0) (b.below (length (leading ys r ps) + i) inside);
+      }
+
+-- ---- the points of a row, each behind a blank
+
+module _ (show : ℕ → List ℕ) (ps : List ℕ) (i : ℕ) where
+  pub next-field : i < length ps → Parts (blanked (map show (drop i ps))) (blank ∷ show (at ps i)) (blanked (map show (drop (i + 1) ps)))
+  unfolding blanked
+  next-field h = record { is = rw (add-one, drop-cons ps i 0) }
+
+  pub last-field : length ps ≤ i → blanked (map show (drop i ps)) ≡ []
+  unfolding blanked
+  last-field h = ap (λ l. blanked (map show l)) (drop_of_length-le ps h)
+
+-- ---- a line: what stands in front of its end, and how long it is
+
+pub line-parts : (first : List ℕ) (rest : List (List ℕ)) → Parts (line first rest) (first ++ blanked rest) (newline ∷ [])
+line-parts first rest = record { is = refl }
+
+pub field-parts : (first : List ℕ) (rest : List (List ℕ)) → Parts (first ++ blanked rest) first (blanked rest)
+field-parts first rest = record { is = refl }
+
+pub line-length : (first : List ℕ) (rest : List (List ℕ)) → length (line first rest) ≡ length first + length (blanked rest) + 1
+line-length first rest = rw (length-append (first ++ blanked rest) (newline ∷ []), length-append first (blanked rest))
+
+-- ---- the rows
+
+-- the line of a row by its points
+pub line-of : (show : ℕ → List ℕ) (ys : List ℕ) (r : ℕ) (ps : List ℕ) {row : List ℕ} → row ≡ leading ys r ps → line (decimal r) (map show row) ≡ line_in show ys r ps
+unfolding line_in
+line-of show ys r ps e = ap (λ l. line (decimal r) (map show l)) e
+
+module _ (show : ℕ → List ℕ) (ys : List ℕ) (r height : ℕ) (ps : List ℕ) where
+  pub next-line : r < height
+      → Parts (lines_from show ys r (height - r) ps) (line_in show ys r ps) (lines_from show ys (r + 1) (height - (r + 1)) (behind ys r ps))
+  unfolding lines_from
+  next-line h =
+      let k : height - r ≡ suc (height - (r + 1)) = omega arith in
+      record { is = rw (k, add-one r) }
+
+  pub last-line : height ≤ r → lines_from show ys r (height - r) ps ≡ []
+  unfolding lines_from
+  last-line h = let k : height - r ≡ 0 = omega arith in rw k

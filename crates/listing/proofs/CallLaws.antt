@@ -1,84 +1,112 @@
--- The outcome of the call by cases: the line of a refusal, a buffer that is short, and one that is not.
-use mathlib.Core.Path.{◌≡◌, refl, sym, ap, ◌∙◌, subst}
+-- From a table's chart to the call: what it gives the page, the line of a refusal, a buffer that is short, and one that is not.
+use mathlib.Core.Path.{◌≡◌, refl, ap, ◌∙◌}
 use mathlib.Core.Bool.{Bool, true, false, cond}
 use mathlib.Core.List.{List, [], ◌∷◌, ◌++◌}
-use Prim.Native.Nat.{ℕ, ◌+◌, ◌≤◌, ◌<◌}
+use Prim.Native.Nat.{ℕ, ◌≤◌, ◌<◌}
 use native.Mathlib.Omega.{arith}
 use borrow.Author.Tests.{le-leb, lt-leb, leb-true}
 use lib.Dec.{leb}
-use lib.ListN.{length, get_or, take, drop}
+use lib.ListN.{length, get_or, drop, length-append}
+use Rattle.std.specs.Prelude.{Ok, Err}
 use Rattle.outcome.specs.declared.Refusal.{Refusal}
 use Rattle.outcome.specs.declared.Refusal.TheVariants.{ShortBuffer}
-use Rattle.outcome.specs.declared.Verdict.TheVariants.{Refused}
-use Rattle.outcome.specs.Refusal.{Outcome, done, refused, number_of, refusal_in}
-use Rattle.rows.specs.Placed.{outcome_by}
-use Rattle.ordering.specs.declared.types.ChartFound.{ChartFound}
-use Rattle.ordering.specs.Calls.{Placing, Charted, chart_of_table, chart_out}
-use Rattle.ordering.specs.Charting.{charted_by, TableFound}
-use Rattle.buffers.specs.Written.{Stored}
-use Rattle.buffers.proofs.WriteLaws.{written_is}
-use Rattle.listing.specs.declared.ListingAnswer.TheVariants.{Written, Short}
+use Rattle.outcome.specs.Refusal.{refused, number_of, refusal_in}
+use Rattle.table.specs.Calls.{contents_in}
+use Rattle.table.proofs.FairLaws.{read-fair}
+use Rattle.table.specs.declared.types.Step.{Step}
+use Rattle.merging.specs.declared.MergedEdge.{MergedEdge}
+use Rattle.merging.specs.Merged.{merged, drawn_edges}
+use Rattle.points.specs.declared.dummy.Dummy.{Dummy}
+use Rattle.points.specs.Points.{dummies}
+use Rattle.labels.specs.Labels.{Labelled, label_text}
+use Rattle.labels.proofs.PageLaws.{Parts}
+use Rattle.ordering.specs.declared.types.TableChart.{TableChart}
+use Rattle.ordering.specs.Calls.{Placing, chart_of_table}
+use Rattle.ordering.proofs.OpenedLaws.{Opened, directed-fair}
 use Rattle.lines.specs.Lines.{refusal_text}
-use Rattle.listing.specs.Listing.{outcome_text, listing}
+use Rattle.lines.specs.Printing.{lines_from, numbered, dummy_rows, Layable, Printable}
+use Rattle.listing.specs.Listing.{head_text, dummies_in, outcome_text, listing}
 use Rattle.listing.specs.Widths.{max_listing}
 use Rattle.listing.specs.Calls.{ListingEnd, listing_call, listing_numbers}
+use Rattle.listing.proofs.PageLaws.{Printed, page-layable, page-labelled, page-printable, page-parts}
 use Rattle.listing.proofs.WidthLaws.{listing-short}
-use Rattle.listing.proofs.PageLaws.{stored-front}
+
+-- the front of a text is no longer than all of it
+front-short : {whole front back : List ℕ} → Parts whole front back → length front ≤ length whole
+front-short {whole} {front} {back} p = omega (arith, ap length p.is, length-append front back)
+
+-- ---- a table that has a chart
+
+-- the table and its rows
+abbrev pub placed : TableChart → Placing
+placed r = record { contents = contents_in r.table; rows = r.chart.rows.items }
+
+module _ {bytes : List ℕ} {r : TableChart} (o : Opened bytes r) where
+  pub chart-printed : Printed bytes (placed r)
+  chart-printed = record { fair = read-fair bytes o.said; fair_edges = directed-fair o; best = o.best; few = omega (arith, o.points_are, o.few_points) }
+
+  -- laying the dummies of its edges as they are drawn
+  module _ {list : List MergedEdge} {flags : List Bool} {ys : List ℕ} (a : list ≡ merged r.table.edges.items) (b : flags ≡ r.turned.items) (c : ys ≡ r.chart.rows.items) where
+    pub given-layable : Layable list flags ys
+    given-layable = rw (a, b, c, o.flags_are) (page-layable chart-printed)
+
+    pub given-dummies : {ds : List Dummy} → ds ≡ numbered list (dummies ys 0 (drawn_edges flags list)) → ds ≡ dummies_in (placed r)
+    given-dummies e = e ∙ rw (a, b, c, o.flags_are)
+
+  -- and printing its rows
+  module _ {steps : List Step} {ds : List Dummy} (a : steps ≡ r.table.steps.items) (b : ds ≡ dummies_in (placed r)) where
+    pub given-labelled : {flags : List Bool} → flags ≡ r.turned.items → Labelled bytes steps ds flags
+    given-labelled c = rw (a, b, c, o.flags_are) (page-labelled chart-printed)
+
+    module _ {ys order : List ℕ} (d : ys ≡ r.chart.rows.items) (e : order ≡ r.chart.order.items) where
+      pub given-printable : Printable (length steps) (length ds) ys order
+      given-printable = rw (a, b, d, e, o.order_is) (page-printable chart-printed)
+
+      -- line one and the lines of the rows are the listing
+      pub given-parts : {flags : List Bool} {n m : ℕ} → flags ≡ r.turned.items → n ≡ length r.table.steps.items → m ≡ length r.table.edges.items
+          → Parts (listing bytes) (head_text n m r.chart.height r.chart.total r.chart.crossings) (lines_from (label_text bytes steps ds flags) (ys ++ dummy_rows ds) 0 r.chart.height order)
+      unfolding listing
+      given-parts c f g =
+          rw (a, b, c, d, e, f, g, o.flags_are, o.order_is, o.height_is, o.total_is, o.crossings_are)
+          (record { is = ap (outcome_text bytes) o.is ∙ (page-parts chart-printed).is })
+
+  -- line one alone is no longer than the listing may be
+  pub given-head : {n m : ℕ} → n ≡ length r.table.steps.items → m ≡ length r.table.edges.items
+      → length (head_text n m r.chart.height r.chart.total r.chart.crossings) ≤ max_listing
+  given-head f g =
+      let p = given-parts {steps = r.table.steps.items} {ds = dummies_in (placed r)} refl refl {ys = r.chart.rows.items} {order = r.chart.order.items} refl refl {flags = r.turned.items} refl f g in
+      omega (arith, front-short p, listing-short bytes)
 
 -- ---- a refusal
 
-module _ (bytes : List ℕ) (f : ChartFound) (found : TableFound bytes f) {r : Refusal} (v : f.verdict ≡ Refused r) where
-  pub refusal_is : listing bytes ≡ refusal_text r
+module _ (bytes : List ℕ) {f : Refusal} (e : chart_of_table bytes ≡ refused f) where
+  pub refusal_is : listing bytes ≡ refusal_text f
   unfolding listing
-  refusal_is = go (chart_of_table bytes) (sym (ap (λ u. outcome_by u (charted_by f)) v) ∙ found.says)
-    where
-      go : (o : Outcome Placing) → refused r ≡ chart_out o → outcome_text bytes o ≡ refusal_text r
-      go (done p) e = let z : ◌≡◌ {A = ℕ} 0 1 = cc in absurd (omega arith)
-      go (refused k) e = ap refusal_text (sym (got e))
-        where
-          code : Outcome Charted → Refusal
-          code (refused x) = x
-          code (done c) = r
+  refusal_is = ap (outcome_text bytes) e
 
-          got : ◌≡◌ {A = Outcome Charted} (refused r) (refused k) → r ≡ k
-          got e = ap code e
-
-  pub refusal-fits : (page : List ℕ) → max_listing ≤ length page → length (refusal_text r) ≤ length page
-  refusal-fits page h = omega (arith, listing-short bytes, ap length refusal_is)
-
-  pub refusal-stored : {l l' : List ℕ} {p : ℕ} → Stored l 0 (refusal_text r) l' p → Stored l 0 (listing bytes) l' p
-  refusal-stored {l} {l'} {p} s = subst (λ t. Stored l 0 t l' p) (sym refusal_is) s
+  pub refusal-fits : length (refusal_text f) ≤ max_listing
+  refusal-fits = omega (arith, listing-short bytes, ap length refusal_is)
 
 -- ---- the buffer
 
-module _ (bytes old page page₁ : List ℕ) (len : ℕ) (wide : max_listing ≤ length page) (s : Stored page 0 (listing bytes) page₁ len) where
-  len_is : len ≡ length (listing bytes)
-  len_is = omega (arith, s.counts)
-
-  pub page-front : (len ≤ length page₁) × (take len page₁ ≡ listing bytes)
-  page-front = stored-front page (listing bytes) page₁ len (omega (arith, listing-short bytes)) s
-
-  pub page-room : len ≤ length old → 0 + length (take len page₁) ≤ length old
-  page-room h = omega (arith, ap length page-front.1, len_is)
-
-  pub call-short : length old < len → (listing_numbers (Short len) ≡ (listing_call bytes old).numbers) × (old ≡ (listing_call bytes old).out)
+module _ (bytes old : List ℕ) {page : List ℕ} {len : ℕ} (is : page ≡ listing bytes) (n : len ≡ length page) where
+  pub call-short : length old < len → (listing_numbers (Err (record { needed = len })) ≡ (listing_call bytes old).numbers) × (old ≡ (listing_call bytes old).out)
   unfolding listing_call
   call-short h =
-      let b = lt-leb (length (listing bytes)) (length old) (omega (arith, len_is)) in
-      (rw (b, len_is), rw b)
+      let b = lt-leb (length (listing bytes)) (length old) (omega (arith, ap length is)) in
+      (rw (b, n, is), rw b)
 
-  pub call-written : (new : List ℕ) (p : ℕ) → len ≤ length old → Stored old 0 (take len page₁) new p
-      → (listing_numbers (Written len) ≡ (listing_call bytes old).numbers) × (new ≡ (listing_call bytes old).out)
+  pub call-written : {new : List ℕ} → len ≤ length old → new ≡ page ++ drop len old
+      → (listing_numbers (Ok len) ≡ (listing_call bytes old).numbers) × (new ≡ (listing_call bytes old).out)
   unfolding listing_call
-  call-written new p h t =
-      let b = le-leb (length (listing bytes)) (length old) (omega (arith, len_is)) in
-      let u : Stored old 0 (listing bytes) new p = subst (λ l. Stored old 0 l new p) page-front.1 t in
-      (rw (b, len_is), rw b (u.holds ∙ written_is old (listing bytes) (omega (arith, len_is))))
+  call-written h e =
+      let b = le-leb (length (listing bytes)) (length old) (omega (arith, ap length is)) in
+      (rw (b, n, is), rw b (e ∙ rw (n, is)))
 
 -- ---- for a layer above
 
 -- what is written lies in the buffer
-pub call_fits : (bytes old : List ℕ) {len : ℕ} → listing_numbers (Written len) ≡ (listing_call bytes old).numbers → len ≤ length old
+pub call_fits : (bytes old : List ℕ) {len : ℕ} → listing_numbers (Ok len) ≡ (listing_call bytes old).numbers → len ≤ length old
 unfolding listing_call
 call_fits bytes old {len} e = go (leb (length (listing bytes)) (length old)) refl e
   where

@@ -2,29 +2,24 @@
 use mathlib.Core.Path.{◌≡◌, refl, sym, ap, ◌∙◌}
 use mathlib.Core.Bool.{Bool, true, false, cond}
 use mathlib.Core.List.{List, [], ◌∷◌, ◌++◌, map, flatten}
-use Prim.Native.Nat.{ℕ, zero, suc, ◌+◌, ◌-◌, ◌≤◌, ◌<◌, suc-le-suc}
+use Prim.Native.Nat.{ℕ, zero, suc, ◌+◌, ◌≤◌, ◌<◌, suc-le-suc}
 use native.Mathlib.Nat.{not-suc-le-zero, zero-lt-suc}
 use native.Mathlib.Omega.{arith}
 use borrow.Author.Tests.{eq-eqb, ne_eqb, eqb-true, ltb-true, ltb-false}
 use lib.Dec.{ltb, eqb}
-use lib.ListN.{length, get_or, replicate, get_or-map}
+use lib.ListN.{length, get_or}
 use lib.Seq.{drop-append_seam}
 use Rattle.graph.specs.declared.Edge.{Edge}
 use Rattle.graph.specs.Rows.{at}
-use Rattle.table.specs.declared.types.Step.{Step}
-use Rattle.table.specs.Limits.{max_steps, max_edges}
-use Rattle.table.specs.Calls.{no_step}
-use Rattle.buffers.specs.Padded.{padded}
-use Rattle.points.specs.Points.{Dummy, point_rows, row_count}
+use Rattle.points.specs.Points.{point_rows, row_count}
 use Rattle.fewest.specs.Fewest.{drawing_of}
 use Rattle.buffers.specs.Lists.{occurs}
 use Rattle.buffers.proofs.OccursLaws.{at-occurs}
 use Rattle.fewest.proofs.CompleteLaws.{drawing-rows, drawing-once, drawing-none}
 use Rattle.labels.specs.Text.{decimal}
 use Rattle.lines.specs.Lines.{line}
-use Rattle.labels.specs.Labels.{step_text, dummy_text, label_text}
-use Rattle.listing.specs.Listing.{no_dummy, point_text, row_lines}
-use Rattle.lines.specs.Printing.{leading, line_in, lines_from, owners_of}
+use Rattle.listing.specs.Listing.{row_lines}
+use Rattle.lines.specs.Printing.{leading, line_in, lines_from}
 
 -- ---- rows one behind the other
 
@@ -85,42 +80,3 @@ pub drawing-lines : (show : ℕ → List ℕ) (ys : List ℕ) (edges : List Edge
 drawing-lines show ys edges =
     ap (λ k. lines_from show (point_rows ys edges) 0 k (flatten (drawing_of ys edges).order)) (sym (drawing-rows ys edges))
     ∙ lines_are show (point_rows ys edges) 0 (drawing_of ys edges).order (λ j i h. omega (arith, stands_in_row ys edges j i h))
-
--- ---- the texts of points
-
-map-cong : (show show' : ℕ → List ℕ) → ((p : ℕ) → show p ≡ show' p) → (l : List ℕ) → map show l ≡ map show' l
-map-cong show show' h [] = refl
-map-cong show show' h (p ∷ l) = rw (h p, map-cong show show' h l)
-
--- the same texts of the points give the same lines
-pub rows-cong : (show show' : ℕ → List ℕ) → ((p : ℕ) → show p ≡ show' p) → (r : ℕ) (o : List (List ℕ)) → row_lines show r o ≡ row_lines show' r o
-unfolding row_lines
-rows-cong show show' h r [] = refl
-rows-cong show show' h r (row ∷ o) = rw (map-cong show show' h row, rows-cong show show' h (suc r) o)
-
-get_or-blank : {A : Type 0} (n i : ℕ) (d : A) → get_or (replicate n d) i d ≡ d
-get_or-blank zero i d = refl
-get_or-blank (suc n) zero d = refl
-get_or-blank (suc n) (suc i) d = get_or-blank n i d
-
-get_or-blanks : {A : Type 0} (l : List A) (n i : ℕ) (d : A) → get_or (l ++ replicate n d) i d ≡ get_or l i d
-get_or-blanks [] n i d = get_or-blank n i d
-get_or-blanks (x ∷ l) n zero d = refl
-get_or-blanks (x ∷ l) n (suc i) d = get_or-blanks l n i d
-
--- an array reads like the list that it holds
-pub get_or-padded : {A : Type 0} (k : ℕ) (d : A) (l : List A) (i : ℕ) → get_or (padded k d l) i d ≡ get_or l i d
-unfolding padded
-get_or-padded k d l i = get_or-blanks l (k - length l) i d
-
--- so a point's text by the arrays is its text by the lists
-pub label_is : (bytes : List ℕ) (steps array : List Step) (ds : List Dummy) (turned flags : List Bool) (p : ℕ) → array ≡ padded max_steps no_step steps
-    → flags ≡ padded max_edges false turned → label_text bytes array (length steps) (owners_of ds) flags p ≡ point_text bytes steps ds turned p
-label_is bytes steps array ds turned flags p e g =
-    let s : get_or array p no_step ≡ get_or steps p no_step = ap (λ l. get_or l p no_step) e ∙ get_or-padded max_steps no_step steps p in
-    let d : at (owners_of ds) (p - length steps) ≡ (get_or ds (p - length steps) no_dummy).edge =
-    get_or-map (λ (x : Dummy). x.edge) ds (p - length steps) no_dummy in
-    let b : (k : ℕ) → get_or flags k false ≡ get_or turned k false = λ k. ap (λ l. get_or l k false) g ∙ get_or-padded max_edges false turned k in
-    ap (λ x. cond (ltb p (length steps)) (step_text bytes x) (dummy_text (get_or flags (at (owners_of ds) (p - length steps)) false) (at (owners_of ds) (p - length steps)))) s
-    ∙ ap (λ x. cond (ltb p (length steps)) (step_text bytes (get_or steps p no_step)) (dummy_text (get_or flags x false) x)) d
-    ∙ ap (λ x. cond (ltb p (length steps)) (step_text bytes (get_or steps p no_step)) (dummy_text x (get_or ds (p - length steps) no_dummy).edge)) (b (get_or ds (p - length steps) no_dummy).edge)

@@ -28,21 +28,24 @@ use Rattle.layering.proofs.CallLaws.{read-oriented}
 use Rattle.merging.specs.declared.MergedEdge.{MergedEdge}
 use Rattle.merging.specs.Merged.{no_merged_edge, merged}
 use Rattle.merging.proofs.FirstLaws.{merged-first}
-use Rattle.rows.specs.Placed.{top_row, FairEdges}
+use Rattle.rows.specs.Limits.{top_row}
+use Rattle.rows.specs.Placed.{FairEdges}
 use Rattle.rows.proofs.StepLaws.{never}
 use Rattle.ordering.proofs.StepLaws.{chart-of-step}
-use Rattle.points.specs.Points.{Dummy, dummies, row_count}
+use Rattle.points.specs.declared.dummy.Dummy.{Dummy}
+use Rattle.points.specs.Points.{dummies, row_count}
 use Rattle.fewest.specs.Fewest.{Drawing, drawing_of}
 use Rattle.ordering.specs.Calls.{drawn_in, Placing, point_count, unless_many, chart_of_table}
 use Rattle.fewest.proofs.CompleteLaws.{drawing-rows, drawing-count}
 use Rattle.ordering.proofs.DrawnLaws.{drawn-among}
 use Rattle.ordering.proofs.FigureLaws.{crossings-low, total_low}
-use Rattle.labels.specs.Text.{text, newline, decimal, blanked}
+use Rattle.labels.specs.Text.{text, decimal, blanked}
 use Rattle.lines.specs.Lines.{line}
 use Rattle.lines.specs.Printing.{numbered}
 use Rattle.lines.proofs.RefusalLaws.{refusal-short}
-use Rattle.labels.specs.Labels.{kind_text, step_text, dummy_text}
-use Rattle.listing.specs.Listing.{no_dummy, dummy_sign, point_text, dummies_in, head_text, row_lines, chart_text, outcome_text, listing}
+use Rattle.lines.proofs.PrintLaws.{line-length}
+use Rattle.labels.specs.Labels.{no_dummy, kind_text, step_text, dummy_text, dummy_sign, label_text}
+use Rattle.listing.specs.Listing.{dummies_in, head_text, row_lines, chart_text, outcome_text, listing}
 use Rattle.listing.specs.Widths.{head_bytes, row_bytes, point_bytes, max_listing}
 use Rattle.labels.proofs.DecimalLaws.{tens, decimal-short}
 use Rattle.rows.proofs.HeightLaws.{rows-top}
@@ -55,9 +58,6 @@ fields-short : (w : ℕ) (show : ℕ → List ℕ) → ((p : ℕ) → length (sh
 unfolding blanked
 fields-short w show h [] = omega arith
 fields-short w show h (p ∷ row) = rw (length-append (show p) (blanked (map show row))) (omega (arith, h p, fields-short w show h row))
-
-line-length : (first : List ℕ) (rest : List (List ℕ)) → length (line first rest) ≡ length first + length (blanked rest) + 1
-line-length first rest = rw (length-append (first ++ blanked rest) (newline ∷ []), length-append first (blanked rest))
 
 -- rows whose numbers have at most three digits
 rows_short : (w : ℕ) (show : ℕ → List ℕ) → ((p : ℕ) → length (show p) < w) → (r : ℕ) (rows : List (List ℕ)) → r + length rows ≤ tens 3
@@ -118,7 +118,7 @@ dummy-length false edge = refl
 
 -- a point is a step or a dummy; the number that a dummy bears has at most three digits
 point-short : (bytes : List ℕ) (steps : List Step) (ds : List Dummy) → ((i : ℕ) → i < length steps → FairStep bytes (get_or steps i no_step))
-    → LowNumbers max_edges ds → (turned : List Bool) (p : ℕ) → length (point_text bytes steps ds turned p) < point_bytes
+    → LowNumbers max_edges ds → (turned : List Bool) (p : ℕ) → length (label_text bytes steps ds turned p) < point_bytes
 point-short bytes steps ds fair n turned p = go (ltb p (length steps)) refl
   where
     go : (b : Bool) → ltb p (length steps) ≡ b
@@ -156,7 +156,7 @@ module _ (bytes : List ℕ) (p : Placing) (h : Drawable bytes p) where
   drawing = drawing_of p.rows (drawn_in p.contents)
 
   abbrev show : ℕ → List ℕ
-  show = point_text bytes steps_of (dummies_in p) (turned_in p.contents)
+  show = label_text bytes steps_of (dummies_in p) (turned_in p.contents)
 
   few_rows : row_count p.rows ≤ suc top_row
   few_rows = count_low top_row p.rows h.low

@@ -1,10 +1,9 @@
 -- The call of the printer: what it answers, and what the lent buffer holds at its end.
-use Rattle.std.specs.Prelude.{cond, List, [], ◌∷◌, ◌++◌, ℕ, leb, length, take, drop}
+use Rattle.std.specs.Prelude.{cond, List, [], ◌∷◌, ◌++◌, ℕ, leb, length, take, drop, Result, Ok, Err}
 use Rattle.outcome.specs.declared.Refusal.TheVariants.{ShortBuffer}
 use Rattle.table.specs.Limits.{max_input}
 use Rattle.outcome.specs.Refusal.{number_of}
-use Rattle.listing.specs.declared.ListingAnswer.{ListingAnswer}
-use Rattle.listing.specs.declared.ListingAnswer.TheVariants.{Written, Short}
+use Rattle.listing.specs.declared.TooShort.{TooShort}
 use Rattle.listing.specs.Listing.{listing}
 
 -- a call's answer in numbers, and the buffer at its end
@@ -23,9 +22,9 @@ unfoldable pub listing_call : List ℕ → List ℕ → ListingEnd
 listing_call bytes old = listing_end (listing bytes) old
 
 -- what the code answers, in numbers
-abbrev pub listing_numbers : ListingAnswer → List ℕ
-listing_numbers (Written len) = 0 ∷ len ∷ []
-listing_numbers (Short len) = number_of ShortBuffer ∷ len ∷ []
+abbrev pub listing_numbers : Result ℕ TooShort → List ℕ
+listing_numbers (Ok len) = 0 ∷ len ∷ []
+listing_numbers (Err short) = number_of ShortBuffer ∷ short.needed ∷ []
 
 -- what the program prints for all that comes on its standard input: it judges the first bytes of a longer input
 unfoldable pub printed : List ℕ → List ℕ

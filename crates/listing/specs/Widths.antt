@@ -2,7 +2,7 @@
 use Rattle.std.specs.Prelude.{ℕ, suc, ◌+◌, ◌*◌}
 use Rattle.table.specs.Limits.{max_name}
 use Rattle.points.specs.Limits.{max_points}
-use Rattle.rows.specs.Placed.{top_row}
+use Rattle.rows.specs.Limits.{top_row}
 
 -- line one: the word, and behind a blank each the steps (2 digits), edges (3), rows (3), total (8) and crossings (6); and its end
 abbrev pub head_bytes : ℕ

@@ -12,25 +12,26 @@ ghost use Rattle.listing.specs.Calls.{listing_call, listing_numbers};
 
 use crate::limits::MAX_LISTING;
 use crate::page::print_page;
-use labels::text::put_text;
+use arrayvec::ArrayVec;
 
-// The lines are in the first bytes of the buffer, so many; or they are not, since the buffer has fewer bytes than these.
-#[derive(Drop)]
-pub enum ListingAnswer {
-    Written(usize),
-    Short(usize),
+// The buffer has fewer bytes than these, which there are to be.
+#[derive(Clone, Copy, Debug, PartialEq, Eq)]
+pub struct TooShort {
+    pub needed: usize,
 }
 
-// What is printed for a table. No listing has more than MAX_LISTING bytes.
-pub fn write_listing(bytes: &[u8], out: &mut [u8]) -> ListingAnswer
+// What is printed for a table: how many bytes, which are the first of the buffer. No listing has more than MAX_LISTING bytes.
+// A buffer that is too short stays as it was, so its length is asked first.
+pub fn write_listing(bytes: &[u8], out: &mut [u8]) -> Result<usize, TooShort>
     ensures result_value { listing_numbers result ≡ (listing_call bytes.now out.old).numbers }
     ensures out_after { out.new ≡ (listing_call bytes.now out.old).out }
 {
-    let mut page = [0u8; MAX_LISTING];
-    let len = print_page(bytes, &mut page);
+    let mut page = ArrayVec::<u8, MAX_LISTING>::new();
+    print_page(bytes, &mut page);
+    let len = page.len();
     if out.len() < len {
-        return ListingAnswer::Short(len);
+        return Err(TooShort { needed: len });
     }
-    put_text(&page[..len], out, 0);
-    ListingAnswer::Written(len)
+    out[..len].copy_from_slice(&page);
+    Ok(len)
 }

@@ -1,5 +1,6 @@
 -- Rows that are held up are heights of walks; so they are the lowest.
 use mathlib.Core.Path.{◌≡◌, refl, sym, ap, ◌∙◌, subst}
+use mathlib.Core.Bool.{Bool, true, false, cond}
 use mathlib.Core.List.{List, []}
 use Prim.Native.Nat.{ℕ, zero, suc, ◌+◌, ◌≤◌, ◌<◌, max}
 use native.Mathlib.Omega.{arith}
@@ -13,11 +14,12 @@ use Rattle.relaxation.proofs.RelaxLaws.{heights-any}
 use Rattle.lowest.specs.Lowest.{Props, Prop, Propped, RowsLowest}
 use Rattle.relaxation.proofs.LowLaws.{held-zero}
 
-pub propped-none : (from to gap : List ℕ) (n : ℕ) (y mark : List ℕ) → mark ≡ replicate n 0 → Propped from to gap n y mark
-propped-none from to gap n y mark e =
+pub propped-none : (from to gap : List ℕ) (n : ℕ) (y old mark : List ℕ) → length old ≡ n → mark ≡ replicate (length old) 0
+    → Propped from to gap n y mark
+propped-none from to gap n y old mark l e =
     record {
-      long = ap length e ∙ length-replicate {A = ℕ} n 0;
-      each = λ v h. absurd (omega (arith, ap (λ (l : List ℕ). at l v) e, zero-at n v));
+      long = ap length e ∙ length-replicate {A = ℕ} (length old) 0 ∙ l;
+      each = λ v h. absurd (omega (arith, ap (λ (l : List ℕ). at l v) e, zero-at (length old) v));
     }
 
 -- A mark that is new comes from the edge.
@@ -28,15 +30,18 @@ propped-turn from to gap n y old mark a h shape p q = rw q.now_mark (record { lo
     t : ℕ
     t = at to a
 
-    both : 0 < max (at old t) q.told → Prop from to gap y t
-    both u = choose (at old t) refl
-      where
-        choose : (x : ℕ) → at old t ≡ x → Prop from to gap y t
-        choose zero e = record { edge = a; inside = h; head = refl; prop = q.prop.holds (omega arith) }
-        choose (suc x) e = p.each t (omega arith)
+    mark_at : ℕ
+    mark_at = max (at old t) (cond q.told 1 0)
 
-    go : (v : ℕ) → 0 < at (set old t (max (at old t) q.told)) v → Prop from to gap y v
-    go v = set_cases (λ (x : ℕ). 0 < x → Prop from to gap y v) old t (max (at old t) q.told) v (omega (arith, p.long, shape.to_in a h))
+    both : 0 < mark_at → Prop from to gap y t
+    both u = choose q.told refl
+      where
+        choose : (b : Bool) → q.told ≡ b → Prop from to gap y t
+        choose true e = record { edge = a; inside = h; head = refl; prop = q.prop.holds e }
+        choose false e = p.each t (omega (arith, u, ap {B = ℕ} (λ (b : Bool). cond b 1 0) e))
+
+    go : (v : ℕ) → 0 < at (set old t mark_at) v → Prop from to gap y v
+    go v = set_cases (λ (x : ℕ). 0 < x → Prop from to gap y v) old t mark_at v (omega (arith, p.long, shape.to_in a h))
         (λ e u. subst (Prop from to gap y) e (both u)) (λ ne u. p.each v u)
 
 module _ (from to gap : List ℕ) (n : ℕ) (y mark : List ℕ) (shape : Shaped from to gap n) (p : Propped from to gap n y mark)

@@ -9,8 +9,9 @@ use native.Mathlib.Numerals.{add-one}
 use native.Mathlib.Omega.{arith}
 use borrow.Author.Tests.{eqb-true, eqb-false, ltb-true, ltb-false}
 use lib.Dec.{eqb, ltb}
-use lib.ListN.{length, get_or, take, set, replicate, length-append, length-set, length-replicate, length-map, get_or-append}
-use lib.Seq.{get_or-append_seam, get_or-take, length-take-le}
+use lib.ListN.{length, get_or, set, replicate, length-append, length-set, length-replicate, length-map, get_or-append}
+use Rattle.std.specs.Prelude.{Some, None}
+use lib.Seq.{get_or-append_seam}
 use Rattle.graph.specs.declared.TableEdge.{TableEdge}
 use Rattle.graph.specs.Directed.{own_edge}
 use Rattle.table.specs.Limits.{max_steps, max_edges}
@@ -82,14 +83,14 @@ last-chain sum edges next (suc b) h k l e =
         let same : b ≡ k = omega (arith, ltb-false k b q) in
         absurd (eqb-false (sum_of (get_or edges b no_merged_edge)) sum p (ap (λ (i : ℕ). sum_of (get_or edges i no_merged_edge)) same ∙ e))
 
--- ---- chains in arrays
+-- ---- chains in lists
 
-pub chained-none : Chained [] (replicate max_edges 0) (replicate max_edges 0) (replicate sum_count 0)
+pub chained-none : Chained [] [] [] (replicate sum_count 0)
 unfolding last_slot
 chained-none =
     record {
-      keys_long = length-replicate {A = ℕ} max_edges 0;
-      next_long = length-replicate {A = ℕ} max_edges 0;
+      keys_long = refl;
+      next_long = refl;
       heads_long = length-replicate {A = ℕ} sum_count 0;
       keyed = λ k h. absurd (not-suc-le-zero h);
       next_at = λ k h. absurd (not-suc-le-zero h);
@@ -121,8 +122,8 @@ module _ (edges : List MergedEdge) (keys next heads : List ℕ) (c : Chained edg
   pub chained-join : (d : TableEdge) → Chained (map (widened d) edges) keys next heads
   chained-join d =
       record {
-        keys_long = c.keys_long;
-        next_long = c.next_long;
+        keys_long = c.keys_long ∙ sym (length-map edges (widened d));
+        next_long = c.next_long ∙ sym (length-map edges (widened d));
         heads_long = c.heads_long;
         keyed = λ k h. c.keyed k (inside k h) ∙ sym (ap key_at (widened-at d edges k (inside k h)) ∙ widened-key d (get_or edges k no_merged_edge));
         next_at = λ k h. c.next_at k (inside k h) ∙ last-same (sum_of (get_or edges k no_merged_edge)) edges (map (widened d) edges) k (λ j l. sym (sums j (omega (arith, inside k h))))
@@ -160,34 +161,38 @@ module _ (edges : List MergedEdge) (keys next heads : List ℕ) (c : Chained edg
     key-new : key_at new ≡ key_of e
     key-new = refl
 
-    pub chained-start : Chained more (set keys (length edges) (key_of e)) (set next (length edges) (get_or heads (e.from + e.to) 0)) (set heads (e.from + e.to) (length edges + 1))
+    -- what is put behind the keys or the links of the others
+    last-of : (xs : List ℕ) (x : ℕ) → length xs ≡ length edges → (k : ℕ) → k ≡ length edges → get_or (xs ++ x ∷ []) k 0 ≡ x
+    last-of xs x long k h = ap (λ (j : ℕ). get_or (xs ++ x ∷ []) j 0) (h ∙ sym long) ∙ get_or-append_seam xs x [] 0
+
+    pub chained-start : Chained more (keys ++ key_of e ∷ []) (next ++ get_or heads (e.from + e.to) 0 ∷ []) (set heads (e.from + e.to) (length edges + 1))
     chained-start =
         record {
-          keys_long = length-set keys (length edges) (key_of e) ∙ c.keys_long;
-          next_long = length-set next (length edges) (get_or heads (e.from + e.to) 0) ∙ c.next_long;
+          keys_long = omega (arith, length-append keys (key_of e ∷ []), longer, c.keys_long);
+          next_long = omega (arith, length-append next (get_or heads (e.from + e.to) 0 ∷ []), longer, c.next_long);
           heads_long = length-set heads (e.from + e.to) (length edges + 1) ∙ c.heads_long;
           keyed = λ k h. key k h (ltb k (length edges)) refl;
           next_at = λ k h. next-is k h (ltb k (length edges)) refl;
           head_at = λ v h. head v h (eqb (e.from + e.to) v) refl;
         }
       where
-        key : (k : ℕ) → k < length more → (b : Bool) → ltb k (length edges) ≡ b → get_or (set keys (length edges) (key_of e)) k 0 ≡ key_at (get_or more k no_merged_edge)
+        key : (k : ℕ) → k < length more → (b : Bool) → ltb k (length edges) ≡ b → get_or (keys ++ key_of e ∷ []) k 0 ≡ key_at (get_or more k no_merged_edge)
         key k h true q =
             let l = ltb-true k (length edges) q in
-            miss keys (length edges) (key_of e) k (λ s. omega (arith, l)) ∙ c.keyed k l ∙ sym (ap key_at (old-at k l))
+            get_or-append keys (key_of e ∷ []) 0 k (omega (arith, l, c.keys_long)) ∙ c.keyed k l ∙ sym (ap key_at (old-at k l))
         key k h false q =
             let s : k ≡ length edges = omega (arith, longer, ltb-false k (length edges) q) in
-            hit keys (length edges) (key_of e) k (omega (arith, c.keys_long)) s ∙ sym (ap key_at (new-at k s) ∙ key-new)
+            last-of keys (key_of e) c.keys_long k s ∙ sym (ap key_at (new-at k s) ∙ key-new)
 
         next-is : (k : ℕ) → k < length more → (b : Bool) → ltb k (length edges) ≡ b
-            → get_or (set next (length edges) (get_or heads (e.from + e.to) 0)) k 0 ≡ last_slot (sum_of (get_or more k no_merged_edge)) more k
+            → get_or (next ++ get_or heads (e.from + e.to) 0 ∷ []) k 0 ≡ last_slot (sum_of (get_or more k no_merged_edge)) more k
         next-is k h true q =
             let l = ltb-true k (length edges) q in
-            miss next (length edges) (get_or heads (e.from + e.to) 0) k (λ s. omega (arith, l)) ∙ c.next_at k l
+            get_or-append next (get_or heads (e.from + e.to) 0 ∷ []) 0 k (omega (arith, l, c.next_long)) ∙ c.next_at k l
             ∙ sym (ap (λ (x : MergedEdge). last_slot (sum_of x) more k) (old-at k l) ∙ last-old (sum_of (get_or edges k no_merged_edge)) k (omega (arith, l)))
         next-is k h false q =
             let s : k ≡ length edges = omega (arith, longer, ltb-false k (length edges) q) in
-            hit next (length edges) (get_or heads (e.from + e.to) 0) k (omega (arith, c.next_long)) s ∙ c.head_at (e.from + e.to) (omega (arith, f.from_in, f.to_in))
+            last-of next (get_or heads (e.from + e.to) 0) c.next_long k s ∙ c.head_at (e.from + e.to) (omega (arith, f.from_in, f.to_in))
             ∙ sym (ap (λ (x : MergedEdge). last_slot (sum_of x) more k) (new-at k s) ∙ ap (last_slot (e.from + e.to) more) s ∙ last-old (e.from + e.to) (length edges) (omega arith))
 
         head : (v : ℕ) → v < sum_count → (b : Bool) → eqb (e.from + e.to) v ≡ b → get_or (set heads (e.from + e.to) (length edges + 1)) v 0 ≡ last_slot v more (length more)
@@ -203,44 +208,29 @@ module _ (edges : List MergedEdge) (keys next heads : List ℕ) (c : Chained edg
 
   -- ---- what is found
 
-  pub links : (count : ℕ) → count ≡ length edges → count ≤ max_edges → Links (take count next)
-  links count e few =
-      record {
-        back = λ k h.
-            let inside : k < count = omega (arith, length-take-le count next (omega (arith, c.next_long))) in
-            omega (arith, get_or-take count next k 0 inside, c.next_at k (omega arith), last-back (sum_of (get_or edges k no_merged_edge)) edges k);
-      }
+  pub links : Links next
+  links = record { back = λ k h. omega (arith, c.next_at k (omega (arith, c.next_long)), last-back (sum_of (get_or edges k no_merged_edge)) edges k) }
 
   pub head-low : (v : ℕ) → v < sum_count → get_or heads v 0 ≤ length edges
   head-low v h = omega (arith, c.head_at v h, last-back v edges (length edges))
 
-  module _ (e : TableEdge) (f : FairEdge max_steps (own_edge e)) (low : (k : ℕ) → k < length edges → (get_or edges k no_merged_edge).to < max_steps)
-      (count slot : ℕ) (counted : count ≡ length edges) (few : count ≤ max_edges)
-      (found : SlotFound (take count keys) (take count next) (get_or heads (e.from + e.to) 0) (key_of e) slot) where
-    long : length (take count next) ≡ count
-    long = length-take-le count next (omega (arith, c.next_long))
+  module _ (e : TableEdge) (f : FairEdge max_steps (own_edge e)) where
+    pub slot-joins : (low : (k : ℕ) → k < length edges → (get_or edges k no_merged_edge).to < max_steps) (k : ℕ)
+        → SlotFound keys next (get_or heads (e.from + e.to) 0) (key_of e) (Some k) → joins e (get_or edges k no_merged_edge) ≡ true
+    slot-joins low k found =
+        let inside : k < length edges = omega (arith, found.0, c.next_long) in
+        key_apart (as_table (get_or edges k no_merged_edge)) e (low k inside) f.to_in (sym (c.keyed k inside) ∙ found.1)
 
-    pub slot-low : slot ≤ count
-    slot-low = omega (arith, found.inside, long)
-
-    pub slot-joins : (k : ℕ) → slot ≡ suc k → joins e (get_or edges k no_merged_edge) ≡ true
-    slot-joins k s =
-        let inside : k < count = omega (arith, slot-low) in
-        key_apart (as_table (get_or edges k no_merged_edge)) e (low k (omega arith)) f.to_in
-        (sym (c.keyed k (omega arith)) ∙ sym (get_or-take count keys k 0 inside) ∙ found.hit k s)
-
-    pub slot-nowhere : slot ≡ 0 → joinings e edges ≡ 0
-    slot-nowhere s = go (ltb 0 (joinings e edges)) refl
+    pub slot-nowhere : SlotFound keys next (get_or heads (e.from + e.to) 0) (key_of e) None → joinings e edges ≡ 0
+    slot-nowhere found = go (ltb 0 (joinings e edges)) refl
       where
         never : Joining e edges → ⊥
         never j =
             let ends = has-ends (get_or edges j.place no_merged_edge).from (get_or edges j.place no_merged_edge).to (get_or edges j.place no_merged_edge).soft e j.joining in
-            found.none s j.place
-            (subst (Chain (take count next) j.place) (sym (c.head_at (e.from + e.to) (omega (arith, f.from_in, f.to_in))))
-            (last-chain (e.from + e.to) edges (take count next) (length edges)
-            (λ k l. get_or-take count next k 0 (omega arith) ∙ c.next_at k l) j.place j.inside (omega (arith, ends.tail, ends.head))))
-            (get_or-take count keys j.place 0 (omega (arith, j.inside)) ∙ c.keyed j.place j.inside
-            ∙ key-same (as_table (get_or edges j.place no_merged_edge)) e j.joining)
+            found j.place
+            (subst (Chain next j.place) (sym (c.head_at (e.from + e.to) (omega (arith, f.from_in, f.to_in))))
+            (last-chain (e.from + e.to) edges next (length edges) c.next_at j.place j.inside (omega (arith, ends.tail, ends.head))))
+            (c.keyed j.place j.inside ∙ key-same (as_table (get_or edges j.place no_merged_edge)) e j.joining)
 
         go : (b : Bool) → ltb 0 (joinings e edges) ≡ b → joinings e edges ≡ 0
         go true q = absurd (never (joined-place e edges (ltb-true 0 (joinings e edges) q)))
@@ -263,17 +253,9 @@ module _ (keys next : List ℕ) (start key slot : ℕ) (w : Searching keys next 
       go k h (here e) = let same : k ≡ place = omega arith in absurd (other (sym (ap (λ (j : ℕ). get_or keys j 0) same) ∙ h))
       go k h (there j e rest) = let same : j ≡ place = omega arith in subst (λ (i : ℕ). Chain next k (get_or next i 0)) same rest
 
-  pub searched-none : slot ≤ 0 → SlotFound keys next start key 0
-  searched-none z = record { inside = omega arith; hit = λ k e. absurd (omega arith); none = λ e k c h. go k (w.left k c h) }
+  pub searched-none : slot ≤ 0 → SlotFound keys next start key None
+  searched-none z = λ k c h. go k (w.left k c h)
     where
       go : (k : ℕ) → Chain next k slot → ⊥
       go k (here e) = omega arith
       go k (there j e rest) = omega arith
-
-pub searched-hit : (keys next : List ℕ) (start key slot place : ℕ) → slot ≤ length next → slot ≡ suc place → get_or keys place 0 ≡ key → SlotFound keys next start key slot
-searched-hit keys next start key slot place l s h =
-    record {
-      inside = l;
-      hit = λ k e. let same : place ≡ k = omega arith in sym (ap (λ (j : ℕ). get_or keys j 0) same) ∙ h;
-      none = λ e. absurd (omega arith);
-    }

@@ -1,27 +1,20 @@
 -- What the functions that merge edges ask for and answer.
-use Rattle.std.specs.Prelude.{◌≡◌, Bool, cond, List, ℕ, zero, suc, ◌+◌, ◌*◌, ◌≤◌, ◌<◌, max, eqb, length, get_or}
+use Rattle.std.specs.Prelude.{◌≡◌, Bool, cond, Option, Some, None, List, ℕ, zero, suc, ◌+◌, ◌*◌, ◌≤◌, ◌<◌, max, eqb, length, get_or}
 use Rattle.graph.specs.declared.TableEdge.{TableEdge}
 use Rattle.graph.specs.Directed.{own_edge, no_table_edge}
 use Rattle.table.specs.Limits.{max_steps, max_edges, max_weight}
 use Rattle.table.specs.Fair.{FairEdge}
-use Rattle.buffers.specs.Padded.{padded}
 use Rattle.merging.specs.declared.MergedEdge.{MergedEdge}
-use Rattle.merging.specs.declared.MergedEdges.{MergedEdges}
-use Rattle.merging.specs.Merged.{no_merged_edge, has_ends, merged}
+use Rattle.merging.specs.Merged.{no_merged_edge, has_ends}
 
 -- as many weights added as there can be
 abbrev pub max_added : ℕ
 max_added = max_edges * max_weight
 
--- the first m edges of an array join steps, and all are within the limits
-pub record Mergeable (m : ℕ) (edges : List TableEdge) : Type 0 where
-  pub few : m ≤ max_edges
-  pub long : length edges ≡ max_edges
-  pub each : (i : ℕ) → i < m → FairEdge max_steps (own_edge (get_or edges i no_table_edge))
-
--- edges as they are drawn, in an array
-abbrev pub merged_array : List TableEdge → MergedEdges
-merged_array edges = record { count = length (merged edges); list = padded max_edges no_merged_edge (merged edges) }
+-- edges join steps, and all are within the limits
+pub record Mergeable (edges : List TableEdge) : Type 0 where
+  pub few : length edges ≤ max_edges
+  pub each : (i : ℕ) → i < length edges → FairEdge max_steps (own_edge (get_or edges i no_table_edge))
 
 -- ---- one edge more
 
@@ -60,11 +53,10 @@ pub data Chain (next : List ℕ) (k : ℕ) : ℕ → Type 0 where
   here : {slot : ℕ} → slot ≡ suc k → Chain next k slot
   there : {slot : ℕ} (j : ℕ) → slot ≡ suc j → Chain next k (get_or next j 0) → Chain next k slot
 
--- a slot of the chain with the key, or none has it
-pub record SlotFound (keys next : List ℕ) (start key r : ℕ) : Type 0 where
-  pub inside : r ≤ length next
-  pub hit : (k : ℕ) → r ≡ suc k → get_or keys k 0 ≡ key
-  pub none : r ≡ 0 → (k : ℕ) → Chain next k start → get_or keys k 0 ≡ key → ⊥
+-- a place with the key, or none on the chain has it
+abbrev pub SlotFound : List ℕ → List ℕ → ℕ → ℕ → Option ℕ → Type 0
+SlotFound keys next start key (Some k) = (k < length next) × (get_or keys k 0 ≡ key)
+SlotFound keys next start key None = (k : ℕ) → Chain next k start → get_or keys k 0 ≡ key → ⊥
 
 -- Merged edges with one sum of their ends are a chain: the sums of edges that leave one step, or that lead to one, are all different, so that
 -- a chain is short.
@@ -87,10 +79,10 @@ as_table e = record { from = e.from; to = e.to; gap = e.gap; weight = e.weight; 
 abbrev pub key_at : MergedEdge → ℕ
 key_at e = key_of (as_table e)
 
--- arrays in which they are chained
+-- lists in which they are chained
 pub record Chained (edges : List MergedEdge) (keys next heads : List ℕ) : Type 0 where
-  pub keys_long : length keys ≡ max_edges
-  pub next_long : length next ≡ max_edges
+  pub keys_long : length keys ≡ length edges
+  pub next_long : length next ≡ length edges
   pub heads_long : length heads ≡ sum_count
   pub keyed : (k : ℕ) → k < length edges → get_or keys k 0 ≡ key_at (get_or edges k no_merged_edge)
   pub next_at : (k : ℕ) → k < length edges → get_or next k 0 ≡ last_slot (sum_of (get_or edges k no_merged_edge)) edges k

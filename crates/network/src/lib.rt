@@ -1,57 +1,114 @@
 // Best rows of a network of edges with gaps and weights, and a flow that certifies them: a primal-dual method with supply and demand by node.
+//
+// `Bounded` stays a clause: there are rows in it, and a fact of a type is a proposition with one proof.
 #![tactic(auto)]
 
-ghost use Rattle.std.specs.Prelude.{length};
+ghost use Rattle.std.specs.Prelude.{◌*◌, ◌≤◌, ◌<◌, List, ℕ, length};
 ghost use Rattle.relaxation.specs.Certificate.{Certified};
 ghost use Rattle.relaxation.specs.Limits.{row_limit};
-ghost use Rattle.relaxation.specs.Network.{Network, Bounded, Buffers};
+ghost use Rattle.relaxation.specs.Network.{Bounded, Buffers};
 
 use drain::drain_nodes;
-use relaxation::arcs::link_lists;
+use relaxation::net::{Links, Net};
 use relaxation::relax::relax_above;
+use relaxation::scratch::{Hints, Tree};
 use start::begin::{ease_flow, start_flow};
+use transport::rows::Rows;
+use transport::stock::Stock;
 
-// The best rows of the n nodes, in the first n entries of y, and a flow that certifies them. Some feasible rows must exist.
+// The scratch of the solver: what it holds at the end is free.
+#[derive(Drop)]
+pub struct Work<'a> {
+    pub tree: Tree<'a>,
+    pub stock: Stock<'a>,
+    pub hints: Hints<'a>,
+    pub lowest: &'a mut [usize],
+}
+
+// The best rows of the nodes, in the first entries of y, and a flow that certifies them. Some feasible rows must exist.
 //
-// What y has at entry is a hint, and its entries behind the nodes stay. Which of the flows that certify the rows comes is free, and so is
-// what the other buffers, from `rank` on, hold at the end: they are scratch.
-pub fn solve(
-    from: &[usize],
-    to: &[usize],
-    gap: &[usize],
-    weight: &[usize],
-    n: usize,
-    y: &mut [usize],
-    flow: &mut [usize],
-    rank: &mut [usize],
-    parent: &mut [usize],
-    capacity: &mut [usize],
-    supply: &mut [usize],
-    demand: &mut [usize],
-    out_head: &mut [usize],
-    out_next: &mut [usize],
-    in_head: &mut [usize],
-    in_next: &mut [usize],
-    queue: &mut [usize],
-    lowest: &mut [usize],
-)
-    requires network { Network from.now to.now gap.now weight.now n }
-    requires bounded { Bounded from.now to.now gap.now n row_limit }
-    requires buffers { Buffers (length from.now) n y.old flow.old rank.old parent.old capacity.old supply.old demand.old lowest.old }
-    ensures { Certified from.now to.now gap.now weight.now n y.old y.new flow.new }
+// What y has at entry is a hint, and its entries behind the nodes stay. Which of the flows that certify the rows comes is free.
+pub fn solve(net: &Net<'_>, y: &mut [usize], flow: &mut [usize], work: &mut Work<'_>)
+    requires bounded { Bounded net.now.arcs.from.now net.now.arcs.to.now net.now.arcs.gap.now net.now.arcs.n row_limit }
+    requires buffers { Buffers (length net.now.arcs.from.now) net.now.arcs.n y.old flow.old work.old.tree.rank.now work.old.tree.parent.now work.old.tree.capacity.now work.old.stock.supply.now work.old.stock.demand.now work.old.lowest.now }
+    ensures { Certified net.now.arcs.from.now net.now.arcs.to.now net.now.arcs.gap.now net.now.weight.now net.now.arcs.n y.old y.new flow.new }
 {
-    link_lists(from, to, out_head, out_next, in_head, in_next);
+    work.hints.outs.link_edges(net.arcs.from);
+    work.hints.ins.link_edges(net.arcs.to);
     start_flow(
-        from, to, gap, weight, n, y, flow, rank, parent, capacity, supply, demand, out_head,
-        out_next, lowest,
+        net,
+        y,
+        flow,
+        &mut work.tree,
+        &mut work.stock,
+        &work.hints.outs,
+        work.lowest,
     );
     ease_flow(
-        from, to, gap, weight, n, y, flow, rank, parent, capacity, supply, demand, out_head,
-        out_next, in_head, in_next, queue,
+        &Rows { arcs: net.arcs, y },
+        net.weight,
+        flow,
+        &mut work.tree,
+        &mut work.stock,
+        &mut work.hints,
     );
     drain_nodes(
-        from, to, gap, weight, n, y, flow, rank, parent, capacity, supply, demand, out_head,
-        out_next, in_head, in_next, queue,
+        net,
+        y,
+        flow,
+        &mut work.tree,
+        &mut work.stock,
+        &mut work.hints,
     );
-    relax_above(from, to, gap, flow, n, y, lowest);
+    relax_above(&net.arcs, flow, y, work.lowest);
+}
+
+// The same in room of its own, for so many nodes and edges as arrays can have. The flow is not handed out. The arrays stand here one by one,
+// so that it is a long function: what lends them on must own them, and there is no heap.
+pub fn best_rows<const NODES: usize, const EDGES: usize>(net: &Net<'_>, y: &mut [usize])
+    requires bounded { Bounded net.now.arcs.from.now net.now.arcs.to.now net.now.arcs.gap.now net.now.arcs.n row_limit }
+    requires nodes_fit { NODES * 8 < 9223372036854775808 }
+    requires edges_fit { EDGES * 8 < 9223372036854775808 }
+    requires few_nodes { net.now.arcs.n ≤ NODES }
+    requires few_edges { length net.now.arcs.from.now ≤ EDGES }
+    requires n_in_bounds { net.now.arcs.n ≤ length y.old }
+    ensures { (flow : List ℕ) × Certified net.now.arcs.from.now net.now.arcs.to.now net.now.arcs.gap.now net.now.weight.now net.now.arcs.n y.old y.new flow }
+{
+    let n = net.arcs.n;
+    let mut flow = [0usize; EDGES];
+    let mut rank = [0usize; NODES];
+    let mut parent = [0usize; NODES];
+    let mut capacity = [0usize; NODES];
+    let mut supply = [0usize; NODES];
+    let mut demand = [0usize; NODES];
+    let mut out_head = [0usize; NODES];
+    let mut out_next = [0usize; EDGES];
+    let mut in_head = [0usize; NODES];
+    let mut in_next = [0usize; EDGES];
+    let mut queue = [0usize; NODES];
+    let mut lowest = [0usize; NODES];
+    let mut work = Work {
+        tree: Tree {
+            rank: &mut rank[..n],
+            parent: &mut parent[..n],
+            capacity: &mut capacity[..n],
+        },
+        stock: Stock {
+            supply: &mut supply[..n],
+            demand: &mut demand[..n],
+        },
+        hints: Hints {
+            outs: Links {
+                head: &mut out_head,
+                next: &mut out_next,
+            },
+            ins: Links {
+                head: &mut in_head,
+                next: &mut in_next,
+            },
+            queue: &mut queue,
+        },
+        lowest: &mut lowest[..n],
+    };
+    solve(net, y, &mut flow[..net.arcs.from.len()], &mut work);
 }

@@ -8,7 +8,6 @@ use native.Mathlib.Omega.{arith}
 use borrow.Author.Tests.{leb-true}
 use lib.Dec.{leb}
 use lib.ListN.{length, get_or, take}
-use lib.Seq.{get_or-take}
 use Rattle.graph.specs.declared.Edge.{Edge}
 use Rattle.graph.specs.Rows.{at, no_edge, total}
 use Rattle.outcome.specs.declared.Refusal.{Refusal}
@@ -20,9 +19,9 @@ use Rattle.outcome.proofs.ToldLaws.{number-some}
 use Rattle.table.specs.Table.{Contents, contents_of, read}
 use Rattle.layering.specs.Calls.{table_rows_found, oriented_in}
 use Rattle.layering.proofs.CallLaws.{read-oriented}
-use Rattle.rows.specs.Placed.{top_row}
+use Rattle.rows.specs.Limits.{top_row}
 use Rattle.rows.proofs.PlacedLaws.{best-low}
-use Rattle.ordering.specs.declared.Figures.{Figures}
+use Rattle.ordering.specs.declared.types.Figures.{Figures}
 use Rattle.points.specs.Points.{point_rows, segments, row_count}
 use Rattle.fewest.specs.Fewest.{best_order, drawing_of}
 use Rattle.ordering.specs.Calls.{ChartEnd, drawn_in, point_count, unless_many, chart_of_table, charted, chart_out, figures_numbers, filled, chart_end, chart_call, DrawnBest, ChartBest}
@@ -89,10 +88,8 @@ module _ (bytes rows order : List ℕ) (f : Figures) (buffer : List ℕ) where
   never : {X : Type 0} (r : Refusal) → numbers_of r ≡ 0 ∷ figures_numbers f → X
   never r e = absurd (omega (arith, number-some r, ap refusal_in e))
 
-  low : (t : Contents) → read bytes ≡ done t → Best-of t → (v : ℕ) → v < length t.steps → at (take (length t.steps) buffer) v ≤ top_row
-  low t r b v h =
-      let n = length t.steps in
-      rw (get_or-take n buffer v 0 h) (best-low n (oriented_in t) buffer (read-oriented bytes r) (b refl).0 v h)
+  low : (t : Contents) → read bytes ≡ done t → Best-of t → (v : ℕ) → at (take (length t.steps) buffer) v ≤ top_row
+  low t r b v = (best-low (length t.steps) (oriented_in t) (take (length t.steps) buffer) (read-oriented bytes r) (b refl).0).each v
 
   small : (t : Contents) (ys : List ℕ) → read bytes ≡ done t → length (point_rows ys (drawn_in t)) ≤ max_points
       → (charted ys (oriented_in t) (drawn_in t)).figures ≡ f → Best-of t → Small f
@@ -108,7 +105,7 @@ module _ (bytes rows order : List ℕ) (f : Figures) (buffer : List ℕ) where
             omega (
               arith,
               (b refl).1,
-              total_low (oriented_in t) (at (take n buffer)) max_weight top_row (λ i h. ((fair.each i h).weight_low, low t r b (get_or (oriented_in t) i no_edge).to (fair.each i h).to_in)),
+              total_low (oriented_in t) (at (take n buffer)) max_weight top_row (λ i h. ((fair.each i h).weight_low, low t r b (get_or (oriented_in t) i no_edge).to)),
               mul-le-mul_left (max_weight * top_row) fair.few_edges,
               mul_comm (length (oriented_in t)) (max_weight * top_row),
               mul_comm max_edges (max_weight * top_row),

@@ -1,4 +1,4 @@
--- A table with its chart, as the code hands it on in arrays and numbers, and what the definitions say of them.
+-- A table with its chart, as the code hands it on in lists and numbers, and what the definitions say of them.
 use mathlib.Core.Path.{◌≡◌, refl, sym, ap, ◌∙◌, subst}
 use mathlib.Core.Bool.{Bool, true, false}
 use mathlib.Core.List.{List, flatten}
@@ -6,65 +6,45 @@ use Prim.Native.Nat.{ℕ, ◌≤◌}
 use native.Mathlib.Omega.{arith}
 use borrow.Author.Tests.{leb-true}
 use lib.Dec.{leb}
-use lib.ListN.{length, take}
-use lib.Seq.{length-take-le}
+use lib.ListN.{length}
+use Rattle.std.specs.Prelude.{Ok, Err}
 use Rattle.graph.specs.Rows.{at, total, Best}
+use Rattle.graph.specs.Directed.{directed_by}
 use Rattle.outcome.specs.declared.Refusal.{Refusal}
 use Rattle.outcome.specs.declared.Refusal.TheVariants.{ManyPoints}
-use Rattle.table.specs.declared.types.Table.{Table}
-use Rattle.outcome.specs.declared.Verdict.TheVariants.{Accepted}
-use Rattle.table.specs.Limits.{max_steps, max_edges}
 use Rattle.points.specs.Limits.{max_points}
 use Rattle.outcome.specs.Refusal.{Outcome, done, refused, then_do, demand}
 use Rattle.table.specs.Table.{Contents, contents_of, read}
-use Rattle.table.specs.Calls.{no_step, read_call}
-use Rattle.buffers.specs.Padded.{padded}
-use Rattle.table.proofs.ArrayLaws.{array_steps, array-list, array_count, array-edges, array_long}
-use Rattle.graph.specs.Directed.{directed_by}
-use Rattle.buffers.proofs.PaddedLaws.{padded-long}
-use Rattle.table.proofs.FairLaws.{read-fair}
+use Rattle.table.specs.Calls.{contents_in}
 use Rattle.acyclic.proofs.OrientedLaws.{turned-length, directed-oriented}
-use Rattle.layering.specs.Calls.{table_rows_found, rows_of_table, oriented_in, turned_in, place_call}
-use Rattle.layering.proofs.RankLaws.{padded-directs}
-use Rattle.layering.proofs.CallLaws.{place-flags, read-oriented}
-use Rattle.rows.specs.Placed.{outcome_by, FairEdges}
-use Rattle.ordering.specs.declared.Figures.{Figures}
-use Rattle.ordering.specs.declared.types.ChartFound.{ChartFound}
-use Rattle.graph.specs.declared.TableEdge.{TableEdge}
+use Rattle.layering.specs.Calls.{table_rows_found, rows_of_table, oriented_in, turned_in}
+use Rattle.layering.proofs.CallLaws.{read-oriented}
+use Rattle.rows.specs.Placed.{FairEdges}
+use Rattle.ordering.specs.declared.types.TableChart.{TableChart}
 use Rattle.merging.specs.Merged.{merged, drawn_edges}
 use Rattle.merging.specs.Merging.{Mergeable}
 use Rattle.points.specs.Points.{row_count}
 use Rattle.points.specs.Laying.{Chart}
 use Rattle.points.proofs.PointLaws.{tails, heads}
 use Rattle.fewest.specs.Fewest.{drawing_of}
-use Rattle.ordering.specs.Calls.{drawn_in, Placing, point_count, unless_many, chart_of_table, Charted, charted, chart_out}
+use Rattle.ordering.specs.Calls.{drawn_in, Placing, point_count, unless_many, chart_of_table, Charted, charted, chart_out, DrawEnd, draw_by, draw_call, draw_end}
 use Rattle.ordering.specs.Charting.{charted_by, TableFound}
-use Rattle.ordering.proofs.DrawnLaws.{mergeable, drawn-flags, drawn-among}
+use Rattle.ordering.proofs.DrawnLaws.{mergeable, drawn-among}
 use Rattle.ordering.proofs.ChartLaws.{chart-of}
 
--- What the arrays and numbers of an accepted table hold: its steps and edges, its rows, and their drawing.
-pub record Opened (bytes : List ℕ) (table : Table) (flags : List Bool) (f : ChartFound) : Type 0 where
-  pub placing : Placing
-  pub is : chart_of_table bytes ≡ done placing
-  pub said : read bytes ≡ done placing.contents
-  pub rows_found : rows_of_table bytes ≡ done placing.rows
-  pub n_is : table.n ≡ length placing.contents.steps
-  pub f_n : f.n ≡ table.n
-  pub steps_are : table.steps ≡ padded max_steps no_step placing.contents.steps
-  pub m_is : table.m ≡ length placing.contents.edges
-  pub flags_are : flags ≡ padded max_edges false (turned_in placing.contents)
-  pub flags_long : length flags ≡ max_edges
-  pub edges_are : directed_by flags (take table.m table.edges) ≡ oriented_in placing.contents
-  pub own_edges : take table.m table.edges ≡ placing.contents.edges
-  pub edges_long : length table.edges ≡ max_edges
-  pub rows_are : take f.n f.rows ≡ placing.rows
-  pub best : Best (length placing.contents.steps) (oriented_in placing.contents) placing.rows
-  pub height_is : f.height ≡ row_count placing.rows
-  pub order_is : take f.points f.order ≡ flatten (drawing_of placing.rows (drawn_in placing.contents)).order
-  pub points_are : f.points ≡ point_count placing.rows (drawn_in placing.contents)
-  pub few_points : f.points ≤ max_points
-  pub total_is : f.total ≡ total (oriented_in placing.contents) (at placing.rows)
-  pub crossings_are : f.crossings ≡ (drawing_of placing.rows (drawn_in placing.contents)).crossings
+-- What an accepted table's lists and numbers hold: its steps and edges, its rows, and their drawing.
+pub record Opened (bytes : List ℕ) (r : TableChart) : Type 0 where
+  pub said : read bytes ≡ done (contents_in r.table)
+  pub is : chart_of_table bytes ≡ done (record { contents = contents_in r.table; rows = r.chart.rows.items })
+  pub rows_found : rows_of_table bytes ≡ done r.chart.rows.items
+  pub flags_are : r.turned.items ≡ turned_in (contents_in r.table)
+  pub best : Best (length r.table.steps.items) (oriented_in (contents_in r.table)) r.chart.rows.items
+  pub height_is : r.chart.height ≡ row_count r.chart.rows.items
+  pub order_is : r.chart.order.items ≡ flatten (drawing_of r.chart.rows.items (drawn_in (contents_in r.table))).order
+  pub points_are : length r.chart.order.items ≡ point_count r.chart.rows.items (drawn_in (contents_in r.table))
+  pub few_points : length r.chart.order.items ≤ max_points
+  pub total_is : r.chart.total ≡ total (oriented_in (contents_in r.table)) (at r.chart.rows.items)
+  pub crossings_are : r.chart.crossings ≡ (drawing_of r.chart.rows.items (drawn_in (contents_in r.table))).crossings
 
 -- ---- the placing
 
@@ -111,71 +91,51 @@ module _ (bytes : List ℕ) (c : Charted) where
       go (done t) r e = found t (table_rows_found (length t.steps) t.edges) r refl e
       go (refused g) r e = never e
 
--- ---- the arrays and numbers
+-- ---- the lists and numbers
 
-module _ (bytes : List ℕ) (table : Table) (flags : List Bool) (f : ChartFound) (same : table ≡ (read_call bytes).table) (turned : flags ≡ (place_call bytes).turned)
-    (h : TableFound bytes f) (a : f.verdict ≡ Accepted) where
-  found : Found bytes (charted_by f)
-  found = found_of bytes (charted_by f) (sym (ap (λ u. outcome_by u (charted_by f)) a) ∙ h.says)
+-- a table that was read, and the rest of the answer in the place of what was found
+module _ (bytes : List ℕ) {r : TableChart} (e : draw_end (Ok r) ≡ draw_call bytes) (h : TableFound bytes (Ok r.chart)) where
+  found : Found bytes (charted_by r.chart)
+  found = found_of bytes (charted_by r.chart) h.says
 
-  abbrev t : Contents
-  t = found.placing.contents
+  end : draw_end (Ok r) ≡ draw_by (contents_of (read bytes)) (done (charted_by r.chart))
+  unfolding draw_call
+  end = e ∙ ap (draw_by (contents_of (read bytes))) (sym h.says)
 
-  abbrev ys : List ℕ
-  ys = found.placing.rows
+  here : contents_in r.table ≡ found.placing.contents
+  here = ap (λ (x : DrawEnd). x.contents) end ∙ ap contents_of found.said
 
-  rows_taken : take f.n f.rows ≡ ys
-  rows_taken = ap (λ (c : Charted). c.rows) found.holds
+  ys-are : r.chart.rows.items ≡ found.placing.rows
+  ys-are = ap (λ (c : Charted). c.rows) found.holds
 
-  rows-best : Best (length t.steps) (oriented_in t) ys
-  rows-best =
-      subst (λ l. Best (length t.steps) (oriented_in t) l) rows_taken
-      (subst (λ o. Best (length (contents_of o).steps) (oriented_in (contents_of o)) (take f.n f.rows)) found.said (h.best a))
+  -- what was found, by contents and rows
+  record Held (t : Contents) (ys : List ℕ) : Type 0 where
+    is : chart_of_table bytes ≡ done (record { contents = t; rows = ys })
+    said : read bytes ≡ done t
+    rows_found : rows_of_table bytes ≡ done ys
+    few : point_count ys (drawn_in t) ≤ max_points
+    holds : charted_by r.chart ≡ charted ys (oriented_in t) (drawn_in t)
 
-  node-count : f.n ≡ length t.steps
-  node-count = sym (length-take-le f.n f.rows (h.handable.storable a).few_rows) ∙ ap length rows_taken ∙ rows-best.one_a_node
+  held : Held (contents_in r.table) r.chart.rows.items
+  held =
+      subst (λ t. Held t r.chart.rows.items) (sym here)
+      (subst (Held found.placing.contents) (sym ys-are)
+      (record { is = found.is; said = found.said; rows_found = found.rows_found; few = found.few; holds = found.holds }))
 
-  figures-are : (charted_by f).figures ≡ (charted ys (oriented_in t) (drawn_in t)).figures
-  figures-are = ap (λ (c : Charted). c.figures) found.holds
-
-  points-counted : f.points ≡ point_count ys (drawn_in t)
-  points-counted = ap (λ (g : Figures). g.points) figures-are
-
-  flags-turned : flags ≡ padded max_edges false (turned_in t)
-  flags-turned = turned ∙ place-flags bytes ∙ rw (found.rows_found, found.said) refl
-
-  few-turned : length (turned_in t) ≤ max_edges
-  few-turned = subst (λ k. k ≤ max_edges) (sym (turned-length (length t.steps) t.edges)) (read-fair bytes found.said).few_edges
-
-  edges-directed : directed_by flags (take table.m table.edges) ≡ oriented_in t
-  edges-directed =
-      ap (directed_by flags) (array-edges bytes table same t found.said) ∙ ap (λ b. directed_by b t.edges) flags-turned
-      ∙ padded-directs (turned_in t) t.edges ∙ directed-oriented (length t.steps) t.edges
-
-  pub opened : Opened bytes table flags f
+  pub opened : Opened bytes r
   opened =
       record {
-        placing = found.placing;
-        is = found.is;
-        said = found.said;
-        rows_found = found.rows_found;
-        n_is = array_steps bytes table same t found.said;
-        f_n = node-count ∙ sym (array_steps bytes table same t found.said);
-        steps_are = array-list bytes table same t found.said;
-        m_is = array_count bytes table same t found.said;
-        flags_are = flags-turned;
-        flags_long = ap length flags-turned ∙ padded-long max_edges false (turned_in t) few-turned;
-        edges_are = edges-directed;
-        own_edges = array-edges bytes table same t found.said;
-        edges_long = array_long bytes table same t found.said;
-        rows_are = rows_taken;
-        best = rows-best;
-        height_is = h.tall a ∙ ap row_count rows_taken;
-        order_is = ap (λ (c : Charted). c.order) found.holds;
-        points_are = points-counted;
-        few_points = omega (arith, points-counted, found.few);
-        total_is = ap (λ (g : Figures). g.total) figures-are;
-        crossings_are = ap (λ (g : Figures). g.crossings) figures-are;
+        said = held.said;
+        is = held.is;
+        rows_found = held.rows_found;
+        flags_are = ap (λ (x : DrawEnd). x.turned) end ∙ ap (λ o. turned_in (contents_of o)) held.said;
+        best = subst (λ o. Best (length (contents_of o).steps) (oriented_in (contents_of o)) r.chart.rows.items) held.said h.placed.best;
+        height_is = h.placed.tall;
+        order_is = ap (λ (c : Charted). c.order) held.holds;
+        points_are = ap (λ (c : Charted). c.figures.points) held.holds;
+        few_points = omega (arith, ap (λ (c : Charted). c.figures.points) held.holds, held.few);
+        total_is = ap (λ (c : Charted). c.figures.total) held.holds;
+        crossings_are = ap (λ (c : Charted). c.figures.crossings) held.holds;
       }
 
 -- ---- what a layer above takes from it
@@ -185,29 +145,33 @@ pub chart-refused : (o : Outcome Placing) {r : Refusal} → refused r ≡ chart_
 chart-refused (done p) e = let z : ◌≡◌ {A = ℕ} 0 1 = cc in absurd (omega arith)
 chart-refused (refused g) e = sym cc
 
-module _ (bytes : List ℕ) (table : Table) (flags : List Bool) (f : ChartFound) (o : Opened bytes table flags f) where
-  pub few-own : table.m ≤ max_edges
-  few-own = omega (arith, o.m_is, (read-fair bytes o.said).few_edges)
+pub found-refused : (bytes : List ℕ) {f : Refusal} → TableFound bytes (Err f) → chart_of_table bytes ≡ refused f
+found-refused bytes h = chart-refused (chart_of_table bytes) h.says
 
-  pub rows_of : take table.n f.rows ≡ o.placing.rows
-  rows_of = ap (λ k. take k f.rows) (sym o.f_n) ∙ o.rows_are
+module _ {bytes : List ℕ} {r : TableChart} (o : Opened bytes r) where
+  abbrev table : Contents
+  table = contents_in r.table
 
   -- the edges as kept or turned are fair
-  pub directed-fair : FairEdges (length o.placing.contents.steps) (oriented_in o.placing.contents)
+  pub directed-fair : FairEdges (length r.table.steps.items) (oriented_in table)
   directed-fair = read-oriented bytes o.said
 
+  pub opened-long : length r.turned.items ≡ length r.table.edges.items
+  opened-long = ap length o.flags_are ∙ turned-length (length r.table.steps.items) r.table.edges.items
+
+  pub opened-directed : directed_by r.turned.items r.table.edges.items ≡ oriented_in table
+  opened-directed = ap (λ b. directed_by b r.table.edges.items) o.flags_are ∙ directed-oriented (length r.table.steps.items) r.table.edges.items
+
   -- the table's edges can be merged
-  pub opened-mergeable : Mergeable table.m table.edges
+  pub opened-mergeable : Mergeable r.table.edges.items
   opened-mergeable =
-      mergeable flags table.edges table.m few-own o.edges_long (length o.placing.contents.steps)
-      (subst (FairEdges (length o.placing.contents.steps)) (sym o.edges_are) directed-fair)
+      mergeable r.turned.items r.table.edges.items (length r.table.steps.items)
+      (subst (FairEdges (length r.table.steps.items)) (sym opened-directed) directed-fair)
 
   -- what is drawn of them are the edges of the chart
-  pub opened-drawn : drawn_edges flags (merged (take table.m table.edges)) ≡ drawn_in o.placing.contents
-  opened-drawn =
-      ap (λ (l : List TableEdge). drawn_edges flags (merged l)) o.own_edges
-      ∙ ap (λ (b : List Bool). drawn_edges b (merged o.placing.contents.edges)) o.flags_are ∙ drawn-flags o.placing.contents
+  pub opened-drawn : drawn_edges r.turned.items (merged r.table.edges.items) ≡ drawn_in table
+  opened-drawn = ap (λ (b : List Bool). drawn_edges b (merged r.table.edges.items)) o.flags_are
 
   -- and lead down
-  pub opened-chart : Chart o.placing.rows (tails (drawn_in o.placing.contents)) (heads (drawn_in o.placing.contents))
-  opened-chart = chart-of (length o.placing.contents.steps) (oriented_in o.placing.contents) directed-fair o.placing.rows o.best (drawn_in o.placing.contents) (drawn-among o.placing.contents)
+  pub opened-chart : Chart r.chart.rows.items (tails (drawn_in table)) (heads (drawn_in table))
+  opened-chart = chart-of (length r.table.steps.items) (oriented_in table) directed-fair r.chart.rows.items o.best (drawn_in table) (drawn-among table)

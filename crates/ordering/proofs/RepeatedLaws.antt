@@ -4,11 +4,11 @@ use mathlib.Core.Path.{◌≡◌, refl, sym, ap, ◌∙◌, subst}
 use mathlib.Core.Bool.{Bool, true, false}
 use mathlib.Core.List.{List, [], ◌∷◌}
 use mathlib.Core.Logic.{◌↔◌}
-use mathlib.Core.Option.{Option, none, some}
 use Prim.Native.Nat.{ℕ, ◌-◌, ◌≤◌, ◌<◌}
 use native.Mathlib.Omega.{arith}
 use lib.Dec.{leb}
 use lib.ListN.{length, get_or}
+use Rattle.std.specs.Prelude.{Option, Some, None}
 use Rattle.graph.specs.declared.Edge.{Edge}
 use Rattle.graph.specs.Rows.{at, total, Feasible, Best}
 use Rattle.graph.specs.Search.{rows_of}
@@ -100,9 +100,9 @@ module _ (bytes : List ℕ) {p : Placing} (e : chart_of_table bytes ≡ done p) 
       (free-iff n (must_of p.contents.edges) (must-each (λ (x : Edge). (x.from < n) × (x.to < n)) p.contents.edges (λ i h s. ((apart i h).from_in, (apart i h).to_in)))).1
       (go (rows_of n (oriented_in p.contents)) p.rows (lowest_on_loop n (must_of p.contents.edges)) (parts-of bytes e).found)
     where
-      go : (rows ys : List ℕ) (o : Option ℕ) → unless_loop o rows ≡ done ys → o ≡ none
-      go rows ys none h = refl
-      go rows ys (some s) h = never (sym h)
+      go : (rows ys : List ℕ) (o : Option ℕ) → unless_loop o rows ≡ done ys → o ≡ None
+      go rows ys None h = refl
+      go rows ys (Some s) h = never (sym h)
 
   -- edges that are drawn as one are all kept or all turned
   pub repeated-turned : (i j : ℕ) → i < length p.contents.edges → j < length p.contents.edges

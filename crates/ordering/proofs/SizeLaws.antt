@@ -14,7 +14,7 @@ use Rattle.points.specs.Limits.{max_points}
 use Rattle.outcome.specs.Refusal.{Outcome, done, refused, then_do, demand}
 use Rattle.table.specs.Table.{Contents, read, read_within}
 use Rattle.table.proofs.SizeLaws.{read-before}
-use Rattle.rows.specs.Placed.{old_top_row}
+use Rattle.rows.specs.Limits.{old_top_row}
 use Rattle.layering.specs.Calls.{table_rows_found, rows_of_table, steps_in}
 use Rattle.layering.proofs.SizeLaws.{table-byte}
 use Rattle.ordering.specs.Calls.{Placing, drawn_in, point_count, unless_many, chart_of_table}

@@ -1,21 +1,17 @@
 -- The whole chart: what the call answers, and what its two buffers hold at its end.
-use Rattle.std.specs.Prelude.{◌≡◌, Bool, ◌&&◌, cond, ℕ, leb, length, get_or, take, drop}
+use Rattle.std.specs.Prelude.{◌≡◌, Bool, ◌&&◌, cond, ℕ, leb, length, get_or, take, drop, Result, Ok, Err}
 use mathlib.Core.List.{List, [], ◌∷◌, ◌++◌, flatten}
 use Rattle.graph.specs.declared.Edge.{Edge}
 use Rattle.graph.specs.Rows.{at, total, Best}
+use Rattle.outcome.specs.declared.Refusal.{Refusal}
 use Rattle.outcome.specs.declared.Refusal.TheVariants.{ManyPoints, ShortBuffer}
-use Rattle.table.specs.declared.types.Table.{Table}
-use Rattle.table.specs.Limits.{max_steps}
 use Rattle.points.specs.Limits.{max_points}
-use Rattle.outcome.specs.Refusal.{Outcome, done, refused, then_do, demand, numbers_of, told, bare, verdict_numbers, refusal_in}
-use Rattle.table.specs.Table.{Contents, read}
-use Rattle.buffers.specs.Padded.{padded}
-use Rattle.layering.specs.Calls.{table_rows_found, oriented_in, turned_in, steps_in, edges_in, place_call}
+use Rattle.outcome.specs.Refusal.{Outcome, done, refused, then_do, demand, numbers_of, answered, refusal_in}
+use Rattle.table.specs.Table.{Contents, contents_of, read}
+use Rattle.table.specs.Calls.{contents_in}
+use Rattle.layering.specs.Calls.{table_rows_found, oriented_in, turned_in, steps_in, edges_in}
 use Rattle.merging.specs.Merged.{merged, drawn_edges}
-use Rattle.ordering.specs.declared.Figures.{Figures}
-use Rattle.ordering.specs.declared.ChartAnswer.{ChartAnswer}
-use Rattle.ordering.specs.declared.ChartAnswer.TheVariants.{Drawn, Refused}
-use Rattle.ordering.specs.declared.types.ChartFound.{ChartFound}
+use Rattle.ordering.specs.declared.types.Figures.{Figures}
 use Rattle.ordering.specs.declared.types.TableChart.{TableChart}
 use Rattle.points.specs.Points.{point_rows, row_count}
 use Rattle.fewest.specs.Fewest.{drawing_of}
@@ -98,9 +94,8 @@ unfoldable pub chart_call : List ℕ → List ℕ → List ℕ → ChartEnd
 chart_call bytes rows order = chart_end (chart_out (chart_of_table bytes)) rows order
 
 -- what the code answers, in numbers
-abbrev pub chart_numbers : ChartAnswer → List ℕ
-chart_numbers (Drawn f) = 0 ∷ figures_numbers f
-chart_numbers (Refused r) = numbers_of r
+abbrev pub chart_numbers : Result Figures Refusal → List ℕ
+chart_numbers r = answered figures_numbers r
 
 -- ---- demand 3
 
@@ -118,58 +113,57 @@ ChartBest bytes numbers rows = DrawnBest (steps_in bytes) (edges_in bytes) numbe
 
 -- ---- what a layer above builds on
 
--- the chart of an outcome; a refusal has no rows, no points and no figures
-abbrev pub chart_by : Outcome Charted → Charted
-chart_by (done c) = c
-chart_by (refused r) = record { rows = []; order = []; figures = record { points = 0; total = 0; crossings = 0 } }
-
--- a chart in arrays, whose entries behind those in use are 0: the number of steps and their rows, how many rows these make, the points in
--- their order, and the figures
-pub record ChartArrays : Type 0 where
-  pub n : ℕ
+-- the numbers of the outcome, the steps and edges of the table, which edges are turned, and the chart: the rows, how many rows these make,
+-- the points in their order, and the figures
+pub record DrawEnd : Type 0 where
+  pub numbers : List ℕ
+  pub contents : Contents
+  pub turned : List Bool
   pub rows : List ℕ
   pub height : ℕ
   pub order : List ℕ
   pub figures : Figures
 
-abbrev pub arrays_of : Charted → ChartArrays
-arrays_of c =
+-- with a refusal comes no table, and there are no flags and no chart
+abbrev pub draw_refused : Refusal → DrawEnd
+draw_refused r =
     record {
-      n = length c.rows;
-      rows = padded max_steps 0 c.rows;
+      numbers = numbers_of r;
+      contents = contents_of (refused r);
+      turned = [];
+      rows = [];
+      height = 0;
+      order = [];
+      figures = record { points = 0; total = 0; crossings = 0 };
+    }
+
+-- a table and its chart
+abbrev pub draw_by : Contents → Outcome Charted → DrawEnd
+draw_by t (done c) =
+    record {
+      numbers = 0 ∷ [];
+      contents = t;
+      turned = turned_in t;
+      rows = c.rows;
       height = row_count c.rows;
-      order = padded max_points 0 c.order;
+      order = c.order;
       figures = c.figures;
     }
+draw_by t (refused r) = draw_refused r
 
--- the numbers of the outcome, the table, which of its edges are turned, and the chart
-pub record DrawEnd : Type 0 where
-  pub numbers : List ℕ
-  pub table : Table
-  pub turned : List Bool
-  pub arrays : ChartArrays
-
--- 0 or the refusal's number, with a blank chart where refused; the table and what is turned are as the rows leave them
 unfoldable pub draw_call : List ℕ → DrawEnd
-draw_call bytes =
-    record {
-      numbers = told bare (chart_of_table bytes);
-      table = (place_call bytes).table;
-      turned = (place_call bytes).turned;
-      arrays = arrays_of (chart_by (chart_out (chart_of_table bytes)));
-    }
-
--- what the code's arrays hold
-abbrev pub arrays_in : ChartFound → ChartArrays
-arrays_in f =
-    record {
-      n = f.n;
-      rows = f.rows;
-      height = f.height;
-      order = f.order;
-      figures = record { points = f.points; total = f.total; crossings = f.crossings };
-    }
+draw_call bytes = draw_by (contents_of (read bytes)) (chart_out (chart_of_table bytes))
 
 -- what the code answers, in numbers
-abbrev pub draw_end : TableChart → DrawEnd
-draw_end r = record { numbers = verdict_numbers r.found.verdict; table = r.table; turned = r.turned; arrays = arrays_in r.found }
+abbrev pub draw_end : Result TableChart Refusal → DrawEnd
+draw_end (Ok r) =
+    record {
+      numbers = 0 ∷ [];
+      contents = contents_in r.table;
+      turned = r.turned.items;
+      rows = r.chart.rows.items;
+      height = r.chart.height;
+      order = r.chart.order.items;
+      figures = record { points = length r.chart.order.items; total = r.chart.total; crossings = r.chart.crossings };
+    }
+draw_end (Err r) = draw_refused r

@@ -1,42 +1,23 @@
 -- What the functions behind the whole chart ask for and answer.
-use Rattle.std.specs.Prelude.{◌≡◌, Bool, List, [], map, ℕ, ◌+◌, ◌*◌, ◌≤◌, ◌<◌, leb, length, get_or, take}
+use Rattle.std.specs.Prelude.{◌≡◌, List, ℕ, ◌+◌, ◌*◌, ◌≤◌, leb, length, Result, Ok, Err, IfOk}
 use Rattle.graph.specs.declared.Edge.{Edge}
 use Rattle.graph.specs.Rows.{at, total, Best}
 use Rattle.outcome.specs.declared.Refusal.{Refusal}
 use Rattle.outcome.specs.declared.Refusal.TheVariants.{ManyPoints}
-use Rattle.outcome.specs.declared.Verdict.TheVariants.{Accepted, Refused}
-use Rattle.table.specs.Limits.{max_steps, max_edges, max_weight}
+use Rattle.table.specs.Limits.{max_edges, max_weight}
 use Rattle.points.specs.Limits.{max_points}
-use Rattle.outcome.specs.Refusal.{Outcome, done, demand}
+use Rattle.outcome.specs.Refusal.{Outcome, done, refused, demand}
 use Rattle.layering.specs.Calls.{steps_in, edges_in}
-use Rattle.buffers.specs.Padded.{padded}
-use Rattle.merging.specs.declared.MergedEdge.{MergedEdge}
-use Rattle.merging.specs.Merged.{no_merged_edge}
-use Rattle.rows.specs.Placed.{outcome_by, top_row, FairEdges}
-use Rattle.ordering.specs.declared.Figures.{Figures}
-use Rattle.ordering.specs.declared.ChartAnswer.{ChartAnswer}
+use Rattle.rows.specs.declared.types.RowsFound.{RowsFound}
+use Rattle.rows.specs.Limits.{top_row}
+use Rattle.rows.specs.Placed.{FairEdges, RowsPlaced}
+use Rattle.ordering.specs.declared.types.Figures.{Figures}
 use Rattle.ordering.specs.declared.types.ChartFound.{ChartFound}
+use Rattle.ordering.specs.declared.types.TableChart.{TableChart}
 use Rattle.points.specs.Points.{row_count}
 use Rattle.buffers.specs.Lists.{Below}
 use Rattle.points.specs.Laying.{Chart}
-use Rattle.ordering.specs.Calls.{point_count, Charted, charted, chart_out, chart_of_table, chart_end, chart_numbers, chart_by, arrays_of, arrays_in}
-
--- the first entries of three arrays, so many, are the ends and the weights of edges
-pub record Split (edges : List Edge) (count : ℕ) (from to weight : List ℕ) : Type 0 where
-  pub few : count ≤ max_edges
-  pub tails : take count from ≡ map (λ (e : Edge). e.from) edges
-  pub heads : take count to ≡ map (λ (e : Edge). e.to) edges
-  pub weights : take count weight ≡ map (λ (e : Edge). e.weight) edges
-  pub from_long : length from ≡ max_edges
-  pub to_long : length to ≡ max_edges
-  pub weight_long : length weight ≡ max_edges
-
--- the first merged edges of an array, so many, and a flag for the first edge of each
-pub record Directable (count : ℕ) (list : List MergedEdge) (turned : List Bool) : Type 0 where
-  pub few : count ≤ max_edges
-  pub long : length list ≡ max_edges
-  pub flags_long : length turned ≡ max_edges
-  pub firsts : (i : ℕ) → i < count → (get_or list i no_merged_edge).first < max_edges
+use Rattle.ordering.specs.Calls.{point_count, Charted, charted, chart_out, chart_of_table, chart_end, chart_numbers}
 
 -- a chart that is to be drawn, if it has few points
 pub record Sizable (ys from to : List ℕ) : Type 0 where
@@ -44,74 +25,54 @@ pub record Sizable (ys from to : List ℕ) : Type 0 where
   pub few_edges : length from ≤ max_edges
   pub few_rows : Below max_points ys
 
--- best rows of fair edges, in the first n entries of an array whose others are 0, and their total
-pub record RowsGiven (n : ℕ) (edges : List Edge) (rows : List ℕ) (sum : ℕ) : Type 0 where
-  pub fair : FairEdges n edges
-  pub best : Best n edges (take n rows)
-  pub summed : sum ≡ total edges (at (take n rows))
-  pub blank : rows ≡ padded max_steps 0 (take n rows)
-  pub long : length rows ≡ max_steps
-  pub low : (v : ℕ) → v < n → at rows v ≤ top_row
+-- best rows of fair edges, and their total
+pub record RowsGiven (edges : List Edge) (f : RowsFound) : Type 0 where
+  pub fair : FairEdges (length f.rows.items) edges
+  pub placed : RowsPlaced edges (length f.rows.items) f
 
--- a refusal, with a blank chart
-abbrev pub no_chart : Refusal → ChartFound
-no_chart r =
-    record {
-      verdict = Refused r;
-      n = 0;
-      rows = padded max_steps 0 [];
-      height = 0;
-      points = 0;
-      order = padded max_points 0 [];
-      total = 0;
-      crossings = 0;
-    }
-
--- what arrays and numbers hold
+-- what lists and numbers hold
 abbrev pub charted_by : ChartFound → Charted
 charted_by f =
     record {
-      rows = take f.n f.rows;
-      order = take f.points f.order;
-      figures = record { points = f.points; total = f.total; crossings = f.crossings };
+      rows = f.rows.items;
+      order = f.order.items;
+      figures = record { points = length f.order.items; total = f.total; crossings = f.crossings };
     }
 
 -- the outcome that they hold
-abbrev pub held_chart : ChartFound → Outcome Charted
-held_chart f = outcome_by f.verdict (charted_by f)
+abbrev pub held_chart : Result ChartFound Refusal → Outcome Charted
+held_chart (Ok f) = done (charted_by f)
+held_chart (Err r) = refused r
 
--- what can be handed out: the entries are there, and each row fits a buffer's
-pub record Storable (f : ChartFound) : Type 0 where
-  pub few_rows : f.n ≤ length f.rows
-  pub few_points : f.points ≤ length f.order
-  pub low_rows : (v : ℕ) → v < f.n → at f.rows v ≤ top_row
+-- the rows of a chart are the best of the edges, and its total and its height are theirs
+pub record ChartPlaced (edges : List Edge) (n : ℕ) (f : ChartFound) : Type 0 where
+  pub best : Best n edges f.rows.items
+  pub summed : f.total ≡ total edges (at f.rows.items)
+  pub tall : f.height ≡ row_count f.rows.items
 
-pub record Handable (f : ChartFound) : Type 0 where
-  pub storable : f.verdict ≡ Accepted → Storable f
-
--- an outcome in arrays, and nothing else in them: where it is not refused, it can be handed out, its rows are the best of the edges, and
--- its total and its height are theirs
-pub record ChartHeld (n : ℕ) (edges : List Edge) (what : Outcome Charted) (f : ChartFound) : Type 0 where
-  pub says : held_chart f ≡ what
-  pub whole : arrays_in f ≡ arrays_of (chart_by what)
-  pub handable : Handable f
-  pub best : f.verdict ≡ Accepted → Best n edges (take f.n f.rows)
-  pub summed : f.verdict ≡ Accepted → f.total ≡ total edges (at (take f.n f.rows))
-  pub tall : f.verdict ≡ Accepted → f.height ≡ row_count (take f.n f.rows)
+-- all of the answer; where it is not refused, its rows are the best of the edges, and its total and its height are theirs
+pub record ChartHeld (n : ℕ) (edges : List Edge) (what : Outcome Charted) (r : Result ChartFound Refusal) : Type 0 where
+  pub says : held_chart r ≡ what
+  pub placed : IfOk r (ChartPlaced edges n)
 
 -- the chart of edges in their rows, drawn by those that stand for them: refused where it has too many points
 abbrev pub unless_large : List ℕ → List Edge → List Edge → Outcome Charted
 unless_large rows edges drawn = demand (leb (point_count rows drawn) max_points) ManyPoints (done (charted rows edges drawn))
 
-abbrev pub EdgesFound : ℕ → List Edge → List Edge → List ℕ → ChartFound → Type 0
-EdgesFound n edges drawn rows f = ChartHeld n edges (unless_large rows edges drawn) f
+abbrev pub EdgesFound : ℕ → List Edge → List Edge → List ℕ → Result ChartFound Refusal → Type 0
+EdgesFound n edges drawn rows r = ChartHeld n edges (unless_large rows edges drawn) r
 
 -- the chart of a table
-abbrev pub TableFound : List ℕ → ChartFound → Type 0
-TableFound bytes f = ChartHeld (steps_in bytes) (edges_in bytes) (chart_out (chart_of_table bytes)) f
+abbrev pub TableFound : List ℕ → Result ChartFound Refusal → Type 0
+TableFound bytes r = ChartHeld (steps_in bytes) (edges_in bytes) (chart_out (chart_of_table bytes)) r
+
+-- the chart of an answer
+abbrev pub chart_in : Result TableChart Refusal → Result ChartFound Refusal
+chart_in (Ok t) = Ok t.chart
+chart_in (Err r) = Err r
 
 -- an outcome handed out in two buffers
-pub record ChartHandedOut (what : Outcome Charted) (rows order rows' order' : List ℕ) (r : ChartAnswer) : Type 0 where
+pub record ChartHandedOut (what : Outcome Charted) (rows order rows' order' : List ℕ) (r : Result Figures Refusal) : Type 0 where
   pub numbers : chart_numbers r ≡ (chart_end what rows order).numbers
   pub rows_are : rows' ≡ (chart_end what rows order).rows
   pub order_is : order' ≡ (chart_end what rows order).order

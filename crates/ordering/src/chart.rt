@@ -1,114 +1,68 @@
 // The chart of edges in their best rows: the order of its points, or why there is none.
-ghost use Rattle.std.specs.Prelude.{◌≡◌, ◌≤◌, length, take};
+ghost use Rattle.std.specs.Prelude.{◌≡◌, length};
 ghost use Rattle.graph.specs.Directed.{directed_by};
-ghost use Rattle.table.specs.Limits.{max_edges};
 ghost use Rattle.merging.specs.Merged.{merged, drawn_edges};
 ghost use Rattle.merging.specs.Merging.{Mergeable};
-ghost use Rattle.ordering.specs.Charting.{Split, Directable, RowsGiven, no_chart, EdgesFound};
+ghost use Rattle.flatten.specs.Flat.{flat_edges};
+ghost use Rattle.ordering.specs.Charting.{RowsGiven, EdgesFound};
 
 use crate::types::ChartFound;
+use arrayvec::ArrayVec;
 use drawing::draw_points;
+use flatten::Flat;
 use graph::TableEdge;
-use merging::{MergedEdge, direct_merged, merge_edges};
-use outcome::{Refusal, Verdict};
+use merging::merge_edges;
+use outcome::Refusal;
 use points::limits::MAX_POINTS;
-use points::{count_points, count_rows};
-use table::limits::{MAX_EDGES, MAX_STEPS};
+use points::{Layout, count_rows};
+use rows::types::RowsFound;
 
-// The ends and the weights of edges, one array each: the first `count` entries are in use.
-#[derive(Drop)]
-pub struct EdgeEnds {
-    pub count: usize,
-    pub from: [usize; MAX_EDGES],
-    pub to: [usize; MAX_EDGES],
-    pub weight: [usize; MAX_EDGES],
-}
-
-// A refusal, with a blank chart.
-pub fn refuse_chart(f: Refusal) -> ChartFound
-    ensures { result ≡ no_chart f }
-{
-    ChartFound {
-        verdict: Verdict::Refused(f),
-        n: 0,
-        rows: [0; MAX_STEPS],
-        height: 0,
-        points: 0,
-        order: [0; MAX_POINTS],
-        total: 0,
-        crossings: 0,
-    }
-}
-
-// The chart of the first m edges of an array, each as its flag says, between n steps in their best rows: repeated edges are drawn as one.
-// The points are counted first, since only so many can be drawn.
+// The chart of edges, each as its flag says, in their best rows: repeated edges are drawn as one. The points are counted first, since only
+// so many can be drawn.
 pub fn draw_edges(
-    edges: [TableEdge; MAX_EDGES],
-    turned: [bool; MAX_EDGES],
-    m: usize,
-    n: usize,
-    rows: [usize; MAX_STEPS],
-    total: usize,
-) -> ChartFound
-    requires rows_given { RowsGiven n (directed_by turned (take m edges)) rows total }
-    requires m_le_max_edges { (m ≤ max_edges) × (length edges ≡ max_edges) }
-    requires turned_len { length turned ≡ max_edges }
-    ensures { EdgesFound n (directed_by turned (take m edges)) (drawn_edges turned (merged (take m edges))) (take n rows) result }
+    edges: &[TableEdge],
+    turned: &[bool],
+    found: RowsFound,
+) -> Result<ChartFound, Refusal>
+    requires rows_given { RowsGiven (directed_by turned.now edges.now) found }
+    requires turned_len { length turned.now ≡ length edges.now }
+    ensures { EdgesFound (length found.rows.items) (directed_by turned.now edges.now) (drawn_edges turned.now (merged edges.now)) found.rows.items result }
 {
-    let ends = merge_ends(edges, turned, m);
-    let count = ends.count;
-    let from = ends.from;
-    let to = ends.to;
-    let points = count_points(&rows[..n], &from[..count], &to[..count]);
+    let ends = merge_ends(edges, turned);
+    let layout = Layout {
+        rows: &found.rows,
+        from: &ends.from,
+        to: &ends.to,
+    };
+    let points = layout.count_points();
     if MAX_POINTS < points {
-        return refuse_chart(Refusal::ManyPoints);
+        return Err(Refusal::ManyPoints);
     }
-    let height = count_rows(&rows[..n]);
-    let mut order = [0u16; MAX_POINTS];
-    let crossings = draw_points(&rows[..n], &from[..count], &to[..count], points, &mut order);
-    ChartFound {
-        verdict: Verdict::Accepted,
-        n: n,
-        rows: rows,
-        height: height,
-        points: points,
-        order: order,
-        total: total,
-        crossings: crossings,
-    }
+    let height = count_rows(layout.rows);
+    let mut all = [0u16; MAX_POINTS];
+    let crossings = draw_points(&layout, points, &mut all);
+    let mut order = ArrayVec::from(all);
+    order.truncate(points);
+    Ok(ChartFound {
+        rows: found.rows,
+        height,
+        order,
+        total: found.total,
+        crossings,
+    })
 }
 
-// The ends and the weights of the first m edges of an array as they are drawn.
-pub fn merge_ends(edges: [TableEdge; MAX_EDGES], turned: [bool; MAX_EDGES], m: usize) -> EdgeEnds
-    requires mergeable { Mergeable m edges }
-    requires turned_len { length turned ≡ max_edges }
-    ensures { Split (drawn_edges turned (merged (take m edges))) result.count result.from result.to result.weight }
+// The edges as they are drawn: repeated ones are one, each kept or turned as its first edge is.
+pub fn merge_ends(edges: &[TableEdge], turned: &[bool]) -> Flat
+    requires mergeable { Mergeable edges.now }
+    requires turned_len { length turned.now ≡ length edges.now }
+    ensures { flat_edges result ≡ drawn_edges turned.now (merged edges.now) }
 {
-    let all = merge_edges(edges, m);
-    let list = all.list;
-    split_ends(list, turned, all.count)
-}
-
-// The ends and the weights of the first merged edges, so many, each kept or turned as its first edge is.
-fn split_ends(list: [MergedEdge; MAX_EDGES], turned: [bool; MAX_EDGES], count: usize) -> EdgeEnds
-    requires { Directable count list turned }
-    ensures { Split (take count (drawn_edges turned list)) result.count result.from result.to result.weight }
-{
-    let mut from = [0usize; MAX_EDGES];
-    let mut to = [0usize; MAX_EDGES];
-    let mut weight = [0usize; MAX_EDGES];
-    for i in 0..count {
-        let e = list[i];
-        let first = e.first as usize;
-        let directed = direct_merged(e, turned[first]);
-        from[i] = directed.from;
-        to[i] = directed.to;
-        weight[i] = directed.weight;
+    let lines = merge_edges(edges);
+    let mut ends = Flat::new();
+    for line in lines.as_slice() {
+        let first = line.first as usize;
+        ends.push(line.directed(turned[first]));
     }
-    EdgeEnds {
-        count: count,
-        from: from,
-        to: to,
-        weight: weight,
-    }
+    ends
 }

@@ -1,26 +1,34 @@
 // What the orderer hands to a layer above.
-use outcome::Verdict;
+ghost use Rattle.rows.specs.Limits.{RowsLow};
+
+use arrayvec::ArrayVec;
 use points::limits::MAX_POINTS;
 use table::limits::{MAX_EDGES, MAX_STEPS};
 use table::types::Table;
 
-// The first n rows, how many rows these make, the points in their order, and the numbers that go with them; or why there are none.
-#[derive(Drop)]
-pub struct ChartFound {
-    pub verdict: Verdict,
-    pub n: usize,
-    pub rows: [usize; MAX_STEPS],
-    pub height: usize,
+// The numbers that go with a chart: of its points, the total of its rows, and the crossings of its order.
+#[derive(Clone, Copy, Debug, PartialEq, Eq)]
+pub struct Figures {
     pub points: usize,
-    pub order: [u16; MAX_POINTS],
     pub total: usize,
     pub crossings: usize,
+}
+
+// The rows, one a step, how many rows these make, the points in their order, and the numbers that go with them.
+#[derive(Drop)]
+pub struct ChartFound {
+    pub rows: ArrayVec<usize, MAX_STEPS>,
+    pub height: usize,
+    pub order: ArrayVec<u16, MAX_POINTS>,
+    pub total: usize,
+    pub crossings: usize,
+    ghost low: { RowsLow rows.items },
 }
 
 // A table, which of its edges are turned, and its chart.
 #[derive(Drop)]
 pub struct TableChart {
     pub table: Table,
-    pub turned: [bool; MAX_EDGES],
-    pub found: ChartFound,
+    pub turned: ArrayVec<bool, MAX_EDGES>,
+    pub chart: ChartFound,
 }

@@ -1,18 +1,19 @@
--- The loop that gathers the must edges in flat arrays.
-use mathlib.Core.Path.{◌≡◌, refl, sym, ap, ◌∙◌, subst}
-use mathlib.Core.Bool.{Bool, true, false, cond}
-use mathlib.Core.List.{List, [], ◌∷◌, ◌++◌, map}
-use Prim.Native.Nat.{ℕ, ◌+◌, ◌≤◌, ◌<◌}
+-- The search for a soft edge, and the loop that gathers the must edges.
+use mathlib.Core.Path.{◌≡◌, refl, sym, ap, ◌∙◌}
+use mathlib.Core.Bool.{Bool, true, false, cond, ◌||◌}
+use mathlib.Core.List.{List, [], ◌∷◌, ◌++◌}
+use Prim.Native.Nat.{ℕ, suc, ◌+◌, ◌≤◌, ◌<◌}
 use native.Mathlib.Numerals.{add-one}
 use native.Mathlib.Omega.{arith}
-use lib.ListN.{length, get_or, take, set, replicate, length-set, length-replicate, length-append}
-use lib.Seq.{take-suc, take-suc-set, take-set-le}
+use lib.ListN.{length, get_or, take}
+use lib.Seq.{take-suc, length-take-le}
+use Rattle.std.proofs.Common.{take_all}
+use Rattle.std.specs.List.{list_any}
 use Rattle.graph.specs.declared.Edge.{Edge}
 use Rattle.graph.specs.declared.TableEdge.{TableEdge}
 use Rattle.graph.specs.Directed.{own_edge, no_table_edge}
 use Rattle.table.specs.Limits.{max_edges}
-use Rattle.acyclic.specs.Oriented.{must_of}
-use Rattle.orientation.specs.Gathered.{place_after, Column, Gathered}
+use Rattle.acyclic.specs.Oriented.{must_of, any_soft}
 
 -- ---- one edge more
 
@@ -40,94 +41,42 @@ module _ (edges : List TableEdge) (e : TableEdge) where
   unfolding must_of
   must-firm s = must-append edges e ∙ rw s refl
 
--- ---- one array
+-- a search for a soft edge
+pub soft-any : (edges : List TableEdge) → list_any (λ (e : TableEdge). e.soft) edges ≡ any_soft edges
+unfolding any_soft
+soft-any [] = refl
+soft-any (e ∷ edges) = ap (λ (b : Bool). e.soft || b) (soft-any edges)
 
-module _ (field : Edge → ℕ) where
-  column-none : Column field [] 0 (replicate max_edges 0)
-  column-none = record { long = length-replicate {A = ℕ} max_edges 0; front = refl }
-
-  module _ {edges : List Edge} {k : ℕ} {xs : List ℕ} (x : ℕ) (c : Column field edges k xs) where
-    -- what is written behind the first k does not count, unless k grows
-    column-still : Column field edges k (set xs k x)
-    column-still = record { long = length-set xs k x ∙ c.long; front = take-set-le k xs k x (omega arith) ∙ c.front }
-
-    column-more : (e : Edge) → x ≡ field e → k < max_edges → Column field (edges ++ e ∷ []) (k + 1) (set xs k x)
-    column-more e same h =
-        record {
-          long = length-set xs k x ∙ c.long;
-          front = rw add-one (take-suc-set xs k x (omega (arith, c.long)) ∙ rw (c.front, same) (sym (map-append edges e)));
-        }
-      where
-        map-append : (l : List Edge) (d : Edge) → map field (l ++ d ∷ []) ≡ map field l ++ field d ∷ []
-        map-append [] d = refl
-        map-append (a ∷ l) d = ap (λ (t : List ℕ). field a ∷ t) (map-append l d)
-
--- ---- the loop
-
--- the must edges of the first i stand in the arrays
-pub record Gathering (edges : List TableEdge) (i k : ℕ) (from to gap : List ℕ) : Type 0 where
-  pub held : Gathered (must_of (take i edges)) k from to gap
-  pub few : k ≤ i
-
--- an array that nothing is written to yet
-abbrev blank : List ℕ
-blank = replicate max_edges 0
-
-pub gathering-none : (edges : List TableEdge) → Gathering edges 0 0 blank blank blank
+-- there are no more must edges than edges
+pub must-fewer : (edges : List TableEdge) → length (must_of edges) ≤ length edges
 unfolding must_of
-gathering-none edges =
-    record { held = record { froms = column-none _; tos = column-none _; gaps = column-none _; count = refl }; few = omega arith }
+must-fewer [] = omega arith
+must-fewer (e ∷ edges) = go e.soft (must-fewer edges)
+  where
+    go : (b : Bool) → length (must_of edges) ≤ length edges → length (cond b (must_of edges) (own_edge e ∷ must_of edges)) ≤ suc (length edges)
+    go true h = omega arith
+    go false h = omega arith
 
-module _ {edges : List TableEdge} {i k : ℕ} {from to gap : List ℕ} (g : Gathering edges i k from to gap) where
-  abbrev e : TableEdge
-  e = get_or edges i no_table_edge
+-- ---- the loop: the must edges of the first i
 
-  -- one edge more
-  list : i < length edges → take (i + 1) edges ≡ take i edges ++ e ∷ []
+pub must-start : (edges : List TableEdge) (flat : List Edge) → flat ≡ [] → flat ≡ must_of (take 0 edges)
+unfolding must_of
+must-start edges flat e = e
+
+module _ (edges : List TableEdge) (flat : List Edge) (i : ℕ) (so_far : flat ≡ must_of (take i edges)) where
+  pub must-room : i < length edges → length edges ≤ max_edges → length flat < max_edges
+  must-room h few = omega (arith, ap length so_far, must-fewer (take i edges), length-take-le i edges (omega arith))
+
+  list : i < length edges → take (i + 1) edges ≡ take i edges ++ get_or edges i no_table_edge ∷ []
   list inside = rw add-one (take-suc edges i no_table_edge inside)
 
-  -- the arrays after the edge is written to entry k
-  abbrev Next : List Edge → ℕ → Type 0
-  Next l j = Gathered l j (set from k e.from) (set to k e.to) (set gap k e.gap)
+  pub must-past : i < length edges → (get_or edges i no_table_edge).soft ≡ true → flat ≡ must_of (take (i + 1) edges)
+  must-past h s = so_far ∙ sym (ap must_of (list h) ∙ must-soft (take i edges) (get_or edges i no_table_edge) s)
 
-  next-soft : Next (must_of (take i edges)) k
-  next-soft =
-      record {
-        froms = column-still _ _ g.held.froms;
-        tos = column-still _ _ g.held.tos;
-        gaps = column-still _ _ g.held.gaps;
-        count = g.held.count;
-      }
+  pub must-more : (new : List Edge) (e : Edge) → i < length edges → (get_or edges i no_table_edge).soft ≡ false → e ≡ own_edge (get_or edges i no_table_edge)
+      → new ≡ flat ++ e ∷ [] → new ≡ must_of (take (i + 1) edges)
+  must-more new e h s same more =
+      more ∙ rw (so_far, same) (sym (ap must_of (list h) ∙ must-firm (take i edges) (get_or edges i no_table_edge) s))
 
-  next-firm : k < max_edges → Next (must_of (take i edges) ++ own_edge e ∷ []) (k + 1)
-  next-firm h =
-      record {
-        froms = column-more _ _ g.held.froms (own_edge e) refl h;
-        tos = column-more _ _ g.held.tos (own_edge e) refl h;
-        gaps = column-more _ _ g.held.gaps (own_edge e) refl h;
-        count = omega (arith, length-append (must_of (take i edges)) (own_edge e ∷ []), g.held.count);
-      }
-
-  pub gathering-more : i < length edges → i < max_edges → {next : ℕ} → next ≡ place_after k e.soft
-      → Gathering edges (i + 1) next (set from k e.from) (set to k e.to) (set gap k e.gap)
-  unfolding place_after
-  gathering-more inside room {next} place = go e.soft refl
-    where
-      go : (b : Bool) → e.soft ≡ b → Gathering edges (i + 1) next (set from k e.from) (set to k e.to) (set gap k e.gap)
-      go true s =
-          let stays : next ≡ k = place ∙ ap (λ (b : Bool). cond b k (k + 1)) s in
-          record {
-            held = subst (λ (j : ℕ). Next (must_of (take (i + 1) edges)) j) (sym stays)
-                (subst (λ (l : List Edge). Next l k) (sym (ap must_of (list inside) ∙ must-soft (take i edges) e s)) next-soft);
-            few = omega (arith, g.few);
-          }
-      go false s =
-          let grows : next ≡ k + 1 = place ∙ ap (λ (b : Bool). cond b k (k + 1)) s in
-          record {
-            held = subst (λ (j : ℕ). Next (must_of (take (i + 1) edges)) j) (sym grows)
-                (subst (λ (l : List Edge). Next l (k + 1)) (sym (ap must_of (list inside) ∙ must-firm (take i edges) e s)) (next-firm (omega (arith, g.few))));
-            few = omega (arith, g.few);
-          }
-
-  pub gathering-all : (m : ℕ) → m ≤ i → i ≤ m → Gathered (must_of (take m edges)) k from to gap
-  gathering-all m h l = let same : i ≡ m = omega arith in subst (λ (j : ℕ). Gathered (must_of (take j edges)) k from to gap) same g.held
+  pub must-all : length edges ≤ i → flat ≡ must_of edges
+  must-all h = so_far ∙ ap must_of (take_all i edges h)

@@ -1,5 +1,4 @@
--- What follows from the matrix of walks for the edges that are turned, and why the must edges are those that the loop finder takes.
-pub mod SoftLaws
+-- Why the flags are those of the definition, and the loop found is one of must edges.
 pub mod GatherLaws
-pub mod JudgeLaws
 pub mod MustLaws
+pub mod JudgeLaws

@@ -6,9 +6,8 @@ use native.Mathlib.Omega.{arith}
 use lib.ListN.{get_or}
 use Rattle.outcome.specs.declared.Refusal.{Refusal}
 use Rattle.outcome.specs.declared.Refusal.TheVariants.{Cut, Overlong, BadEdition, ManySteps, BadKind, OutOfRange, BadNameByte, ManyEdges, BadEnd, Spare, Loop, ManyPoints, ShortBuffer, NoStep, BadFirmness, LargeChart, BadRow, ManyTries}
-use Rattle.outcome.specs.declared.Verdict.{Verdict}
-use Rattle.outcome.specs.declared.Verdict.TheVariants.{Accepted, Refused}
-use Rattle.outcome.specs.Refusal.{Outcome, done, refused, numbers_of, number_of, step_of, told, verdict_numbers, refusal_in}
+use Rattle.std.specs.Prelude.{Result, Ok, Err}
+use Rattle.outcome.specs.Refusal.{Outcome, done, refused, numbers_of, number_of, step_of, told, outcome_of, answered, refusal_in}
 
 -- ---- refusals
 
@@ -126,12 +125,31 @@ pub told-done : {A : Type 0} (values : A → List ℕ) (o : Outcome A) {vs : Lis
 told-done values (done a) e = record { value = a; outcome = refl; says = cc }
 told-done values (refused r) e = absurd (omega (arith, number-some r, ap refusal_in e))
 
--- ---- verdicts
+-- ---- answers of the code
 
-pub verdict-accepted : (v : Verdict) → refusal_in (verdict_numbers v) ≡ 0 → v ≡ Accepted
-verdict-accepted Accepted e = refl
-verdict-accepted (Refused f) e = absurd (omega (arith, number-some f))
+-- the numbers of an answer are those of the outcome that it stands for
+pub answered-told : {A : Type 0} (values : A → List ℕ) (r : Result A Refusal) → answered values r ≡ told values (outcome_of r)
+answered-told values (Ok a) = refl
+answered-told values (Err f) = refl
 
-pub verdict-refused : (v : Verdict) {f : Refusal} → verdict_numbers v ≡ numbers_of f → v ≡ Refused f
-verdict-refused Accepted {f} e = absurd (omega (arith, number-some f, ap refusal_in e))
-verdict-refused (Refused g) {f} e = ap Refused (numbers-same g f e)
+-- 0 is told of an answer with values
+pub record Gives {A : Type 0} (r : Result A Refusal) : Type 0 where
+  pub value : A
+  pub is : r ≡ Ok value
+
+pub answered-accepted : {A : Type 0} (values : A → List ℕ) (r : Result A Refusal) → refusal_in (answered values r) ≡ 0 → Gives r
+answered-accepted values (Ok a) e = record { value = a; is = refl }
+answered-accepted values (Err f) e = absurd (omega (arith, number-some f))
+
+pub answered-refused : {A : Type 0} (values : A → List ℕ) (r : Result A Refusal) {f : Refusal} → answered values r ≡ numbers_of f → r ≡ Err f
+answered-refused values (Ok a) {f} e = absurd (omega (arith, number-some f, ap refusal_in e))
+answered-refused values (Err g) {f} e = ap Err (numbers-same g f e)
+
+-- ---- from an answer that tells an outcome to that outcome
+
+module _ {A B : Type 0} (shown : A → List ℕ) (values : B → List ℕ) (o : Outcome B) where
+  pub answer-refused : {f : Refusal} → answered shown (Err f) ≡ told values o → o ≡ refused f
+  answer-refused e = told-refused values o e
+
+  pub answer-done : {a : A} → answered shown (Ok a) ≡ told values o → Values values o (shown a)
+  answer-done e = told-done values o e

@@ -1,8 +1,8 @@
 -- The refusals of documents 01 and 02 and their numbers, and the outcome of a call.
-use Rattle.std.specs.Prelude.{Bool, true, false, List, [], ◌∷◌, ℕ, get_or}
+use Rattle.std.specs.Prelude.{Bool, true, false, List, [], ◌∷◌, ℕ, get_or, map, Result, Ok, Err}
+use Rattle.std.specs.List.{join_with_byte}
+use Rattle.std.specs.Fmt.{decimal}
 use Rattle.outcome.specs.declared.Refusal.{Refusal}
-use Rattle.outcome.specs.declared.Verdict.{Verdict}
-use Rattle.outcome.specs.declared.Verdict.TheVariants.{Accepted, Refused}
 use Rattle.outcome.specs.declared.Refusal.TheVariants.{Cut, Overlong, BadEdition, ManySteps, BadKind, OutOfRange, BadNameByte, ManyEdges, BadEnd, Spare, Loop, ManyPoints, ShortBuffer, NoStep, BadFirmness, LargeChart, BadRow, ManyTries}
 
 -- All that a refusal tells: the number that document 01, or 02 from 15 on, gives the reason, and for a loop the step too.
@@ -33,6 +33,10 @@ number_of r = get_or (numbers_of r) 0 0
 abbrev pub step_of : Refusal → ℕ
 step_of r = get_or (numbers_of r) 1 0
 
+-- what is printed of a refusal: its numbers in decimal, with a blank between two
+abbrev pub shown : Refusal → List ℕ
+shown r = join_with_byte 0x20 (map decimal (numbers_of r))
+
 -- what a call makes of its input: an answer or a refusal
 pub data Outcome (A : Type 0) : Type 0 where
   done : A → Outcome A
@@ -48,14 +52,19 @@ abbrev pub told : {A : Type 0} → (A → List ℕ) → Outcome A → List ℕ
 told values (done a) = 0 ∷ values a
 told values (refused r) = numbers_of r
 
+-- what an answer of the code stands for
+abbrev pub outcome_of : {A : Type 0} → Result A Refusal → Outcome A
+outcome_of (Ok a) = done a
+outcome_of (Err r) = refused r
+
+-- all that an answer tells in numbers: 0 and its values, or the refusal's number and what comes with that
+abbrev pub answered : {A : Type 0} → (A → List ℕ) → Result A Refusal → List ℕ
+answered values (Ok a) = 0 ∷ values a
+answered values (Err r) = numbers_of r
+
 -- no values come with it
 abbrev pub bare : {A : Type 0} → A → List ℕ
 bare a = []
-
--- the numbers of a verdict
-abbrev pub verdict_numbers : Verdict → List ℕ
-verdict_numbers Accepted = 0 ∷ []
-verdict_numbers (Refused r) = numbers_of r
 
 -- 0, or the refusal's number, of the numbers that a call tells
 abbrev pub refusal_in : List ℕ → ℕ

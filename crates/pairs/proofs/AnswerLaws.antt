@@ -3,13 +3,13 @@ use mathlib.Core.Path.{◌≡◌, refl, sym, ap, ◌∙◌, subst}
 use mathlib.Core.Bool.{Bool, true, false, ◌||◌, cond}
 use mathlib.Core.Logic.{◌⊎◌, inl, inr}
 use mathlib.Core.List.{List, [], ◌∷◌}
-use Prim.Native.Nat.{ℕ, zero, suc, ◌+◌, ◌-◌, ◌≤◌, ◌<◌}
+use Prim.Native.Nat.{ℕ, zero, suc, ◌+◌, ◌≤◌, ◌<◌}
 use native.Mathlib.Omega.{arith}
 use lib.Dec.{eqb}
 use lib.ListN.{length, get_or, replicate, length-replicate}
 use borrow.Author.Tests.{eqb-true, eqb-false, ne_eqb}
 use Rattle.graph.specs.Search.{run}
-use Rattle.buffers.specs.Lists.{Below, occurs}
+use Rattle.buffers.specs.Lists.{occurs}
 use Rattle.buffers.proofs.RunLaws.{run_length, run_at}
 use Rattle.buffers.proofs.ListLaws.{zero-at}
 use Rattle.crossings.specs.Crossings.{PlacedSegment}
@@ -26,8 +26,10 @@ use Rattle.exchange.specs.Turns.{RowIs}
 use Rattle.exchange.proofs.CostLaws.{of_cons, of_none, with-cons, with_none}
 use Rattle.exchange.proofs.AgreeLaws.{Once, of_agree, floor-agree}
 use Rattle.exchange.proofs.BestLaws.{IsFirstFewest, first-fewest, fewest-agree}
-use Rattle.pairs.specs.Segments.{crossings_in, only, pair_crossings, cross_either, cost_between, cost_from, ends_at, ends_from, ends_after}
-use Rattle.pairs.specs.Filling.{UpTo, FilledIs, CrossedIs}
+use Rattle.std.specs.Prelude.{All}
+use Rattle.pairs.specs.declared.ends.Ends.{Ends}
+use Rattle.pairs.specs.Segments.{crossings_in, only, pair_crossings, cross_either, cost_between, cost_from, placed_end, placed}
+use Rattle.pairs.specs.Filling.{UpTo, FewEnds, FilledIs, CrossedIs}
 use Rattle.pairs.proofs.SegmentLaws.{Between, none, more, crossings-cost, order-crossings, run-once, run-has}
 
 -- ---- the orders that are looked at
@@ -145,26 +147,24 @@ module _ (i j : ℕ) where
         of_none (cost_from (only i j ss)),
       )
 
--- ---- segments in two lists
+-- ---- segments by where their ends stand
 
 -- from whichever row they start, they cost the same
-module _ (r : ℕ) (upper lower : List ℕ) where
-  between-row : (a k left i j : ℕ) → cost_between (ends_at r upper lower a) (ends_from r upper lower k left) i j ≡ cost_between (ends_at 0 upper lower a) (ends_from 0 upper lower k left) i j
-  unfolding cost_between ends_from
-  between-row a k zero i j = refl
-  between-row a k (suc left) i j = omega (arith, between-row a (suc k) left i j)
+module _ (r : ℕ) where
+  between-row : (s : Ends) (ends : List Ends) (i j : ℕ) → cost_between (placed_end r s) (placed r ends) i j ≡ cost_between (placed_end 0 s) (placed 0 ends) i j
+  unfolding cost_between
+  between-row s [] i j = refl
+  between-row s (e ∷ ends) i j = omega (arith, between-row s ends i j)
 
-  from_row : (k left i j : ℕ) → cost_from (ends_from r upper lower k left) i j ≡ cost_from (ends_from 0 upper lower k left) i j
-  unfolding cost_from ends_from
-  from_row k zero i j = refl
-  from_row k (suc left) i j = omega (arith, between-row k (suc k) left i j, from_row (suc k) left i j)
+  from_row : (ends : List Ends) (i j : ℕ) → cost_from (placed r ends) i j ≡ cost_from (placed 0 ends) i j
+  unfolding cost_from
+  from_row [] i j = refl
+  from_row (e ∷ ends) i j = omega (arith, between-row e ends i j, from_row ends i j)
 
-  ends-between : (n k left : ℕ) → Below n lower → k + left ≤ length lower → Between r (run 0 n) (ends_from r upper lower k left)
-  unfolding ends_from
-  ends-between n k zero h g = none
-  ends-between n k (suc left) h g =
-      more {s = ends_at r upper lower k} refl (run-has 0 n (get_or lower k 0) (omega arith) (omega (arith, h.below k (omega arith))))
-      (ends-between n (suc k) left h (omega arith))
+  ends-between : (n : ℕ) (ends : List Ends) → All (λ e. e.lower < n) ends → Between r (run 0 n) (placed r ends)
+  ends-between n [] h = none
+  ends-between n (e ∷ ends) h =
+      more {s = placed_end r e} refl (run-has 0 n e.lower (omega arith) (omega (arith, h 0 e (omega arith)))) (ends-between n ends (λ k d l. h (suc k) d (omega arith)))
 
 -- ---- the answer
 
@@ -179,18 +179,17 @@ run-single k = record { once = run-once 0 k }
 run-low : (k : ℕ) → k ≤ max_row_points → (v : ℕ) → 0 < occurs v (run 0 k) → v < max_row_points
 run-low k h = below_each max_row_points (run 0 k) (λ i g. omega (arith, run_length 0 k, run_at 0 k i 0 (omega (arith, run_length 0 k))))
 
-module _ (upper lower costs : List ℕ) (tries k : ℕ) (few : k ≤ max_row_points) (both : length lower ≡ length upper) (low : Below k lower)
-    (f : FilledIs upper lower costs) (r : ℕ) where
+module _ (ends : List Ends) (costs : List ℕ) (tries k : ℕ) (few : k ≤ max_row_points) (low : FewEnds k ends) (f : FilledIs ends costs) (r : ℕ) where
   -- the segments, from row r
   abbrev ss : List PlacedSegment
-  ss = ends_after r upper lower 0
+  ss = placed r ends
 
   lands : Between r (run 0 k) ss
-  lands = ends-between r upper lower k 0 (length upper - 0) low (omega arith)
+  lands = ends-between r k ends low.inside
 
   -- what the table has for a pair are its crossings
   entry : (i j : ℕ) → 0 < occurs i (run 0 k) → 0 < occurs j (run 0 k) → cost_in costs i j ≡ cost_from ss i j
-  entry i j h g = f.each i j (run-low k few i h) (run-low k few j g) ∙ sym (from_row r upper lower 0 (length upper - 0) i j)
+  entry i j h g = f.each i j (run-low k few i h) (run-low k few j g) ∙ sym (from_row r ends i j)
 
   -- what an order costs by the table are its crossings
   counted : (order : List ℕ) → Permutation (run 0 k) order → cost_of (cost_in costs) order ≡ crossings_in ss order
@@ -213,15 +212,18 @@ module _ (upper lower costs : List ℕ) (tries k : ℕ) (few : k ≤ max_row_poi
       floor-agree (cost_in costs) (pair_crossings ss) (run 0 k) (run-single k) (record { pairs = λ i j h g n. entry i j h g ∙ pair-cost i j ss lands n })
 
 -- The table has the costs of all pairs of the row, and what an order costs are its crossings.
-pub row-crossed : (upper lower costs : List ℕ) (tries k : ℕ) (order : List ℕ) (crossings floor : ℕ) → k ≤ max_row_points → length lower ≡ length upper → Below k lower
-    → FilledIs upper lower costs → RowIs costs tries k order crossings floor → CrossedIs upper lower tries k order crossings floor
-row-crossed upper lower costs tries k order crossings floor few both low f a = record {
-  order_is = λ r. a.order_is ∙ first-is upper lower costs tries k few both low f r
-      ∙ ap (first_fewest (crossings_in (ends_after r upper lower 0))) (arranged-orders tries k);
-  crossings_are = λ r. a.crossings_are ∙ counted upper lower costs tries k few both low f r (cheapest (cost_in costs) tries (run 0 k)) found
-      ∙ ap (crossings_in (ends_after r upper lower 0)) (sym a.order_is);
-  floor_is = λ r. a.floor_is ∙ floor-same upper lower costs tries k few both low f r;
+pub row-crossed : (ends : List Ends) (costs : List ℕ) (tries k : ℕ) (order : List ℕ) (crossings floor : ℕ) → k ≤ max_row_points → FewEnds k ends
+    → FilledIs ends costs → RowIs costs tries k order crossings floor → CrossedIs ends tries k order crossings floor
+row-crossed ends costs tries k order crossings floor few low f a = record {
+  order_is = λ r. a.order_is ∙ first-is ends costs tries k few low f r ∙ ap (first_fewest (crossings_in (placed r ends))) (arranged-orders tries k);
+  crossings_are = λ r. a.crossings_are ∙ counted ends costs tries k few low f r (cheapest (cost_in costs) tries (run 0 k)) found
+      ∙ ap (crossings_in (placed r ends)) (sym a.order_is);
+  floor_is = λ r. a.floor_is ∙ floor-same ends costs tries k few low f r;
 }
   where
     found : Permutation (run 0 k) (cheapest (cost_in costs) tries (run 0 k))
     found = best-permutes (cost_in costs) tries (run 0 k)
+
+-- points of a short row are points of the longest
+pub all-in : (k : ℕ) (ends : List Ends) → k ≤ max_row_points → FewEnds k ends → FewEnds max_row_points ends
+all-in k ends h f = record { few = f.few; inside = λ i d l. omega (arith, f.inside i d l) }

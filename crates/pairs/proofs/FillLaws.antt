@@ -6,14 +6,17 @@ use Prim.Native.Nat.{ℕ, zero, suc, ◌+◌, ◌-◌, ◌*◌, ◌≤◌, ◌<�
 use native.Mathlib.Numerals.{add-one}
 use native.Mathlib.Omega.{arith}
 use lib.Dec.{eqb}
-use lib.ListN.{length, get_or, set, length-set}
-use lib.Seq.{get_or-set_same, get_or-set_other}
+use lib.ListN.{length, get_or, take, drop, set, length-set, length-drop, drop_of_length-le}
+use lib.Seq.{drop-cons, get_or-set_same, get_or-set_other}
 use borrow.Author.Tests.{eqb-true, eqb-false, eq-eqb, ne_eqb, lt-ltb, le-ltb}
 use Rattle.crossings.specs.Crossings.{PlacedSegment}
 use Rattle.crossings.specs.Between.{segment_to}
 use Rattle.exchange.specs.Limits.{max_row_points}
 use Rattle.exchange.specs.Tables.{table_size, cost_in}
-use Rattle.pairs.specs.Segments.{cross_either, cost_between, cost_from, ends_at, ends_from, ends_after}
+use Rattle.std.proofs.lemmas.List.{take_rest}
+use Rattle.std.proofs.lemmas.List.Elements.{All-drop}
+use Rattle.pairs.specs.declared.ends.Ends.{Ends}
+use Rattle.pairs.specs.Segments.{cross_either, cost_between, cost_from, placed_end, placed}
 use Rattle.pairs.specs.Filling.{ends_limit, after_room, pair_room, UpTo, FewEnds, CostsAdded, FilledIs}
 use Rattle.pairs.proofs.PairLaws.{zero-either}
 
@@ -75,108 +78,123 @@ module _ (old : List ℕ) (u x v y most : ℕ) (r : UpTo most old) (h : x < max_
 
 -- ---- a segment with those after it
 
-module _ (upper lower : List ℕ) where
-  after-cons : (b : ℕ) → b < length upper → ends_after 0 upper lower b ≡ ends_at 0 upper lower b ∷ ends_after 0 upper lower (b + 1)
-  unfolding ends_from
-  after-cons b h =
-      let z : length upper - b ≡ suc (length upper - (b + 1)) = omega arith in
-      ap (ends_from 0 upper lower b) z ∙ ap (λ (n : ℕ). ends_at 0 upper lower b ∷ ends_from 0 upper lower n (length upper - (b + 1))) (sym (add-one b))
+-- what a segment costs with the others from the first on
+with-first : (s t : PlacedSegment) (l : List PlacedSegment) (i j : ℕ) → cost_between s (t ∷ l) i j ≡ cross_either s t i j + cost_between s l i j
+unfolding cost_between
+with-first s t l i j = refl
 
-  after_none : (b : ℕ) → length upper ≤ b → ends_after 0 upper lower b ≡ []
-  unfolding ends_from
-  after_none b h = let z : length upper - b ≡ 0 = omega arith in ap (ends_from 0 upper lower b) z
+with-none : (s : PlacedSegment) (i j : ℕ) → cost_between s [] i j ≡ 0
+unfolding cost_between
+with-none s i j = refl
 
-  between_more : (s : PlacedSegment) (b i j : ℕ) → b < length upper
-      → cost_between s (ends_after 0 upper lower b) i j ≡ cross_either s (ends_at 0 upper lower b) i j + cost_between s (ends_after 0 upper lower (b + 1)) i j
-  unfolding cost_between
-  between_more s b i j h = ap (λ (l : List PlacedSegment). cost_between s l i j) (after-cons b h)
+from-first : (s : PlacedSegment) (l : List PlacedSegment) (i j : ℕ) → cost_from (s ∷ l) i j ≡ cost_between s l i j + cost_from l i j
+unfolding cost_from
+from-first s l i j = refl
 
-  between-end : (s : PlacedSegment) (b i j : ℕ) → length upper ≤ b → cost_between s (ends_after 0 upper lower b) i j ≡ 0
-  unfolding cost_between
-  between-end s b i j h = ap (λ (l : List PlacedSegment). cost_between s l i j) (after_none b h)
+from-none : (i j : ℕ) → cost_from [] i j ≡ 0
+unfolding cost_from
+from-none i j = refl
 
-  from_more : (a i j : ℕ) → a < length upper
-      → cost_from (ends_after 0 upper lower a) i j ≡ cost_between (ends_at 0 upper lower a) (ends_after 0 upper lower (a + 1)) i j + cost_from (ends_after 0 upper lower (a + 1)) i j
-  unfolding cost_from
-  from_more a i j h = ap (λ (l : List PlacedSegment). cost_from l i j) (after-cons a h)
+module _ (ends : List Ends) (b : ℕ) where
+  placed_more : (d : Ends) → b < length ends → placed 0 (drop b ends) ≡ placed_end 0 (get_or ends b d) ∷ placed 0 (drop (b + 1) ends)
+  placed_more d h = rw (drop-cons ends b d h, add-one b) refl
 
-  from_end : (a i j : ℕ) → length upper ≤ a → cost_from (ends_after 0 upper lower a) i j ≡ 0
-  unfolding cost_from
-  from_end a i j h = ap (λ (l : List PlacedSegment). cost_from l i j) (after_none a h)
+  placed_none : length ends ≤ b → placed 0 (drop b ends) ≡ []
+  placed_none h = rw (drop_of_length-le ends {i = b} h) refl
 
 -- The costs so far and those with the segments from b on make the whole.
-pub record Counting (upper lower : List ℕ) (a : ℕ) (old new : List ℕ) (b : ℕ) : Type 0 where
-  pub within : b ≤ length upper
+pub record Counting (s : Ends) (after : List Ends) (old new : List ℕ) (b : ℕ) : Type 0 where
+  pub within : b ≤ length after
   pub table : length new ≡ table_size
   pub each : (i j : ℕ) → i < max_row_points → j < max_row_points
-      → cost_in new i j + cost_between (ends_at 0 upper lower a) (ends_after 0 upper lower b) i j
-      ≡ cost_in old i j + cost_between (ends_at 0 upper lower a) (ends_after 0 upper lower (a + 1)) i j
+      → cost_in new i j + cost_between (placed_end 0 s) (placed 0 (drop b after)) i j ≡ cost_in old i j + cost_between (placed_end 0 s) (placed 0 after) i j
   pub room : (most : ℕ) → UpTo most old → (k : ℕ) → get_or new k 0 ≤ most + b
 
-pub counting-start : (upper lower : List ℕ) (a most : ℕ) (old : List ℕ) → a < length upper → UpTo most old → Counting upper lower a old old (a + 1)
-counting-start upper lower a most old h r = record { within = omega arith; table = r.table; each = λ i j p q. refl; room = λ m q k. omega (arith, q.low k) }
+pub counting-start : (s : Ends) (after : List Ends) (most : ℕ) (old : List ℕ) → UpTo most old → Counting s after old old 0
+counting-start s after most old r = record { within = omega arith; table = r.table; each = λ i j p q. refl; room = λ m q k. omega (arith, q.low k) }
 
-module _ (upper lower : List ℕ) (a : ℕ) (old new : List ℕ) (b : ℕ) (s : Counting upper lower a old new b) where
-  pub counting-room : FewEnds upper lower → UpTo after_room old → UpTo pair_room new
-  counting-room l r = record { table = s.table; low = λ k. omega (arith, s.room after_room r k, s.within, l.few) }
+module _ (s : Ends) (after : List Ends) (old new : List ℕ) (b : ℕ) (c : Counting s after old new b) where
+  pub counting-room : FewEnds max_row_points after → UpTo after_room old → UpTo pair_room new
+  counting-room l r = record { table = c.table; low = λ k. omega (arith, c.room after_room r k, c.within, l.few) }
 
-  pub counting_more : (newer : List ℕ) → b < length upper → CostsAdded 1 (cross_either (ends_at 0 upper lower a) (ends_at 0 upper lower b)) new newer
-      → Counting upper lower a old newer (b + 1)
-  counting_more newer h w = record {
+  pub counting_more : (d : Ends) (newer : List ℕ) → b < length after → CostsAdded 1 (cross_either (placed_end 0 s) (placed_end 0 (get_or after b d))) new newer
+      → Counting s after old newer (b + 1)
+  counting_more d newer h w = record {
     within = omega arith;
     table = w.table;
     each = each;
-    room = λ m q k. omega (arith, w.room (m + b) (record { table = s.table; low = s.room m q }) k);
+    room = λ m q k. omega (arith, w.room (m + b) (record { table = c.table; low = c.room m q }) k);
   }
     where
       each : (i j : ℕ) → i < max_row_points → j < max_row_points
-          → cost_in newer i j + cost_between (ends_at 0 upper lower a) (ends_after 0 upper lower (b + 1)) i j
-          ≡ cost_in old i j + cost_between (ends_at 0 upper lower a) (ends_after 0 upper lower (a + 1)) i j
-      each i j p q = omega (arith, s.each i j p q, w.each i j p q, between_more upper lower (ends_at 0 upper lower a) b i j h)
+          → cost_in newer i j + cost_between (placed_end 0 s) (placed 0 (drop (b + 1) after)) i j ≡ cost_in old i j + cost_between (placed_end 0 s) (placed 0 after) i j
+      each i j p q =
+          omega (
+            arith,
+            c.each i j p q,
+            w.each i j p q,
+            ap (λ (l : List PlacedSegment). cost_between (placed_end 0 s) l i j) (placed_more after b d h)
+                ∙ with-first (placed_end 0 s) (placed_end 0 (get_or after b d)) (placed 0 (drop (b + 1) after)) i j,
+          )
 
-  pub counting-end : length upper ≤ b → FewEnds upper lower → CostsAdded ends_limit (cost_between (ends_at 0 upper lower a) (ends_after 0 upper lower (a + 1))) old new
+  pub counting-end : length after ≤ b → FewEnds max_row_points after → CostsAdded ends_limit (cost_between (placed_end 0 s) (placed 0 after)) old new
   counting-end h l = record {
-    table = s.table;
-    each = λ i j p q. omega (arith, s.each i j p q, between-end upper lower (ends_at 0 upper lower a) b i j h);
-    room = λ m q k. omega (arith, s.room m q k, s.within, l.few);
+    table = c.table;
+    each = λ i j p q. omega (arith, c.each i j p q, ap (λ (m : List PlacedSegment). cost_between (placed_end 0 s) m i j) (placed_none after b h) ∙ with-none (placed_end 0 s) i j);
+    room = λ m q k. omega (arith, c.room m q k, c.within, l.few);
   }
 
 -- ---- all segments
 
+-- the segments behind a place are few too
+pub rest-few : (k a : ℕ) (ends : List Ends) → FewEnds k ends → FewEnds k (take (length ends - a) (drop a ends))
+rest-few k a ends f = rw (take_rest ends) (record { few = omega (arith, f.few, length-drop a ends); inside = All-drop (λ (e : Ends). e.lower < k) a ends f.inside })
+
 -- The costs so far and those of the segments from a on make the whole.
-pub record Gathering (upper lower costs : List ℕ) (a : ℕ) : Type 0 where
-  pub within : a ≤ length upper
+pub record Gathering (ends : List Ends) (costs : List ℕ) (a : ℕ) : Type 0 where
+  pub within : a ≤ length ends
   pub table : length costs ≡ table_size
-  pub each : (i j : ℕ) → i < max_row_points → j < max_row_points → cost_in costs i j + cost_from (ends_after 0 upper lower a) i j ≡ cost_from (ends_after 0 upper lower 0) i j
+  pub each : (i j : ℕ) → i < max_row_points → j < max_row_points → cost_in costs i j + cost_from (placed 0 (drop a ends)) i j ≡ cost_from (placed 0 ends) i j
   pub low : (k : ℕ) → get_or costs k 0 ≤ a * ends_limit
 
-pub gathering-start : (upper lower costs : List ℕ) → UpTo 0 costs → Gathering upper lower costs 0
-gathering-start upper lower costs r = record {
+pub gathering-start : (ends : List Ends) (costs : List ℕ) → UpTo 0 costs → Gathering ends costs 0
+gathering-start ends costs r = record {
   within = omega arith;
   table = r.table;
   each = λ i j p q. omega (arith, r.low (i * max_row_points + j));
   low = λ k. omega (arith, r.low k);
 }
 
-module _ (upper lower costs : List ℕ) (a : ℕ) (s : Gathering upper lower costs a) (l : FewEnds upper lower) where
+module _ (ends : List Ends) (costs : List ℕ) (a : ℕ) (s : Gathering ends costs a) (l : FewEnds max_row_points ends) where
   room-now : UpTo (a * ends_limit) costs
   room-now = record { table = s.table; low = s.low }
 
   pub gathering-room : UpTo after_room costs
   gathering-room = record { table = s.table; low = λ k. omega (arith, s.low k, s.within, l.few) }
 
-  pub gathering-more : (new : List ℕ) → a < length upper → CostsAdded ends_limit (cost_between (ends_at 0 upper lower a) (ends_after 0 upper lower (a + 1))) costs new
-      → Gathering upper lower new (a + 1)
-  gathering-more new h w = record {
+  pub gathering-more : (d : Ends) (new : List ℕ) → a < length ends
+      → CostsAdded ends_limit (cost_between (placed_end 0 (get_or ends a d)) (placed 0 (take (length ends - (a + 1)) (drop (a + 1) ends)))) costs new → Gathering ends new (a + 1)
+  gathering-more d new h w = record {
     within = omega arith;
     table = w.table;
-    each = λ i j p q. omega (arith, s.each i j p q, w.each i j p q, from_more upper lower a i j h);
+    each = each;
     low = λ k. omega (arith, w.room (a * ends_limit) room-now k);
   }
+    where
+      each : (i j : ℕ) → i < max_row_points → j < max_row_points → cost_in new i j + cost_from (placed 0 (drop (a + 1) ends)) i j ≡ cost_from (placed 0 ends) i j
+      each i j p q =
+          omega (
+            arith,
+            s.each i j p q,
+            w.each i j p q,
+            ap (λ (m : List Ends). cost_between (placed_end 0 (get_or ends a d)) (placed 0 m) i j) (take_rest ends (a + 1)),
+            ap (λ (m : List PlacedSegment). cost_from m i j) (placed_more ends a d h)
+                ∙ from-first (placed_end 0 (get_or ends a d)) (placed 0 (drop (a + 1) ends)) i j,
+          )
 
-  pub gathering-end : length upper ≤ a → FilledIs upper lower costs
+  pub gathering-end : length ends ≤ a → FilledIs ends costs
   gathering-end h = record {
     table = s.table;
     low = λ k. omega (arith, s.low k, s.within, l.few);
-    each = λ i j p q. omega (arith, s.each i j p q, from_end upper lower a i j h);
+    each = λ i j p q. omega (arith, s.each i j p q, ap (λ (m : List PlacedSegment). cost_from m i j) (placed_none ends a h) ∙ from-none i j);
   }

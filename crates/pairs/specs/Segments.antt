@@ -1,9 +1,10 @@
 -- Segments between a row and the row above it, where the row is put in another order. The lower end of a segment names its point, by where
 -- it stands now or by its number, and an order of the row is the list of these names from left to right.
-use Rattle.std.specs.Prelude.{◌||◌, cond, List, [], ◌∷◌, map, ℕ, zero, suc, ◌+◌, ◌-◌, ltb, eqb, length, get_or}
+use Rattle.std.specs.Prelude.{◌||◌, cond, List, [], ◌∷◌, map, ℕ, ◌+◌, ltb, eqb}
 use Rattle.points.specs.Positions.{position}
 use Rattle.crossings.specs.Crossings.{PlacedSegment, crossing_pairs}
 use Rattle.crossings.specs.Between.{segment_to}
+use Rattle.pairs.specs.declared.ends.Ends.{Ends}
 
 -- a segment with the row in that order
 abbrev pub reordered : List ℕ → PlacedSegment → PlacedSegment
@@ -42,16 +43,10 @@ unfoldable pub cost_from : List PlacedSegment → ℕ → ℕ → ℕ
 cost_from [] i j = 0
 cost_from (s ∷ ss) i j = cost_between s ss i j + cost_from ss i j
 
--- ---- segments in two lists, of the positions of their upper and of their lower ends, all from row r
+-- ---- segments by where their ends stand, all from row r
 
-abbrev pub ends_at : ℕ → List ℕ → List ℕ → ℕ → PlacedSegment
-ends_at r upper lower k = segment_to r (get_or upper k 0) (get_or lower k 0)
+abbrev pub placed_end : ℕ → Ends → PlacedSegment
+placed_end r e = segment_to r e.upper e.lower
 
--- so many of them from one on
-unfoldable pub ends_from : ℕ → List ℕ → List ℕ → ℕ → ℕ → List PlacedSegment
-ends_from r upper lower k zero = []
-ends_from r upper lower k (suc left) = ends_at r upper lower k ∷ ends_from r upper lower (suc k) left
-
--- those from one on
-abbrev pub ends_after : ℕ → List ℕ → List ℕ → ℕ → List PlacedSegment
-ends_after r upper lower k = ends_from r upper lower k (length upper - k)
+abbrev pub placed : ℕ → List Ends → List PlacedSegment
+placed r ends = map (placed_end r) ends

@@ -1,53 +1,44 @@
 // The table of the costs of pairs, from the segments between a row and the row above it.
-ghost use Rattle.std.specs.Prelude.{◌+◌, ◌<◌, length};
-ghost use Rattle.crossings.specs.Between.{segment_to};
+ghost use Rattle.std.specs.Prelude.{◌<◌};
 ghost use Rattle.exchange.specs.Limits.{max_row_points};
-ghost use Rattle.pairs.specs.Segments.{cross_either, cost_between, ends_at, ends_after};
+ghost use Rattle.pairs.specs.Segments.{cross_either, cost_between, placed_end, placed};
 ghost use Rattle.pairs.specs.Filling.{ends_limit, after_room, pair_room, UpTo, FewEnds, CostsAdded, FilledIs};
 
+use crate::ends::Ends;
 use exchange::limits::MAX_ROW_POINTS;
 
-// Two segments: one from place u above to point x, and one from v to y. They cross where the points stand the other way round.
-fn count_pair(costs: &mut [usize], u: usize, x: usize, v: usize, y: usize)
-    requires { UpTo pair_room costs.old × (x < max_row_points) × (y < max_row_points) }
-    ensures { CostsAdded 1 (cross_either (segment_to 0 u x) (segment_to 0 v y)) costs.old costs.new }
+// Two segments. They cross where the points below stand the other way round than the places above.
+fn count_pair(costs: &mut [usize], a: Ends, b: Ends)
+    requires up_to { UpTo pair_room costs.old }
+    requires points { (a.lower < max_row_points) × (b.lower < max_row_points) }
+    ensures { CostsAdded 1 (cross_either (placed_end 0 a) (placed_end 0 b)) costs.old costs.new }
 {
-    if v < u {
-        let k = x * MAX_ROW_POINTS + y;
-        costs[k] = costs[k] + 1;
-        return;
-    }
-    if u < v {
-        let k = y * MAX_ROW_POINTS + x;
-        costs[k] = costs[k] + 1;
+    if b.upper < a.upper {
+        costs[a.lower * MAX_ROW_POINTS + b.lower] += 1;
+    } else if a.upper < b.upper {
+        costs[b.lower * MAX_ROW_POINTS + a.lower] += 1;
     }
 }
 
-// Segment a with those after it.
-fn count_after(upper: &[usize], lower: &[usize], a: usize, costs: &mut [usize])
-    requires few_ends { FewEnds upper.now lower.now }
-    requires a_in_bounds { a < length upper.now }
+// A segment with those after it.
+fn count_after(segment: Ends, after: &[Ends], costs: &mut [usize])
+    requires point { segment.lower < max_row_points }
+    requires few_ends { FewEnds max_row_points after.now }
     requires up_to { UpTo after_room costs.old }
-    ensures { CostsAdded ends_limit (cost_between (ends_at 0 upper.now lower.now a) (ends_after 0 upper.now lower.now (a + 1))) costs.old costs.new }
+    ensures { CostsAdded ends_limit (cost_between (placed_end 0 segment) (placed 0 after.now)) costs.old costs.new }
 {
-    let u = upper[a];
-    let x = lower[a];
-    let mut b = a + 1;
-    while b < upper.len() {
-        count_pair(costs, u, x, upper[b], lower[b]);
-        b += 1;
+    for &other in after {
+        count_pair(costs, segment, other);
     }
 }
 
 // All segments; the table is empty before.
-pub fn fill_costs(upper: &[usize], lower: &[usize], costs: &mut [usize])
-    requires few_ends { FewEnds upper.now lower.now }
+pub fn fill_costs(segments: &[Ends], costs: &mut [usize])
+    requires few_ends { FewEnds max_row_points segments.now }
     requires up_to { UpTo 0 costs.old }
-    ensures { FilledIs upper.now lower.now costs.new }
+    ensures { FilledIs segments.now costs.new }
 {
-    let mut a = 0;
-    while a < upper.len() {
-        count_after(upper, lower, a, costs);
-        a += 1;
+    for (a, &segment) in segments.iter().enumerate() {
+        count_after(segment, &segments[a + 1..], costs);
     }
 }

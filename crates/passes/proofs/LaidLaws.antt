@@ -8,7 +8,7 @@ use Prim.Native.Nat.{ℕ, suc, ◌+◌, ◌-◌, ◌≤◌, ◌<◌}
 use native.Mathlib.Numerals.{add-one}
 use native.Mathlib.Omega.{arith}
 use lib.ListN.{length, get_or, take, drop, set, length-set, length-append, take-append-drop}
-use lib.Seq.{slice, length-take-le, take_at, get_or-set_same, get_or-set_other, get_or-take}
+use lib.Seq.{length-take-le, take_at, get_or-set_same, get_or-set_other, get_or-take}
 use borrow.Author.Tests.{eq-eqb, ne_eqb}
 use Rattle.graph.specs.Rows.{at}
 use Rattle.points.specs.Positions.{position, row_at}
@@ -17,7 +17,6 @@ use Rattle.passes.specs.Starts.{start}
 use Rattle.passes.specs.Laid.{stored, Ranked, Laid}
 use Rattle.buffers.proofs.OccursLaws.{row_below, flat-none}
 use Rattle.passes.proofs.FlatLaws.{start-suc, start-end, start-set, start-below, flat-row, flat-set}
-use Rattle.buffers.proofs.ListLaws.{take-slice}
 use Rattle.passes.proofs.PlaceLaws.{stored-length, stored_other, stored-own, place_set}
 
 -- a flat order with another row there
@@ -62,10 +61,6 @@ module _ (ys : List ℕ) (count : ℕ) (o : List (List ℕ)) (order first : List
     pub row-part : row_at first order r ≡ get_or o r []
     row-part =
         rw (wide-less, h.starts r (omega arith), whole) (flat-row o (drop (length ys) order) r (rw h.rows l))
-
-    -- the same part, by its ends
-    pub row-slice : slice (at first r) (at first (r + 1)) order ≡ get_or o r []
-    row-slice = take-slice (at first r) (at first (r + 1)) order ∙ row-part
 
     -- every point of it is a point
     pub points-below : (n : ℕ) → length ys ≤ n → Below n (get_or o r [])

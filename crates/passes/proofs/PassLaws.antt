@@ -150,16 +150,14 @@ module _ {count : ℕ} {lower head next counts first order₀ pos₀ : List ℕ}
 
   module _ {r : ℕ} {order pos : List ℕ} (g : GoingUp lower head next counts count r first order₀ pos₀ order pos) where
     pub up-goes : 1 < r → {order' pos' : List ℕ}
-        → ChangedBy lower head next counts count (λ upper ys. settle_row (ends_in upper lower) ys (r - 2)) first order pos order' pos'
+        → ChangedBy lower head next counts count (λ upper ys. settle_row (ends_in upper lower) ys (r - 1 - 1)) first order pos order' pos'
         → GoingUp lower head next counts count (r - 1) first order₀ pos₀ order' pos'
     up-goes l c =
-        let e : r - 1 ≡ suc (r - 2) = omega arith in
-        let f : r - 1 - 1 ≡ r - 2 = omega arith in
+        let e : r - 1 ≡ suc (r - 1 - 1) = omega arith in
         record {
           going =
               λ upper ends. going-turn (g.going upper ends) (c.by upper ends)
-              (λ ys o. ap (λ (k : ℕ). up_from (ends_in upper lower) ys k o) e ∙ up_turn (ends_in upper lower) ys (r - 2) o
-              ∙ ap (λ (k : ℕ). up_from (ends_in upper lower) ys k (settle_row (ends_in upper lower) ys (r - 2) o)) (sym f));
+              (λ ys o. ap (λ (k : ℕ). up_from (ends_in upper lower) ys k o) e ∙ up_turn (ends_in upper lower) ys (r - 1 - 1) o);
         }
 
     pub up_ends : r ≤ 1 → ChangedBy lower head next counts count (λ upper ys. pass (segments_in upper lower) ys upward) first order₀ pos₀ order pos

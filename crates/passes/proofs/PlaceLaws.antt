@@ -1,15 +1,15 @@
 -- Positions by point: those of a row stored, and the places of an order after a row of it has changed.
-use mathlib.Core.Path.{◌≡◌, refl, sym, ap, ◌∙◌}
+use mathlib.Core.Path.{◌≡◌, refl, ◌∙◌}
 use mathlib.Core.Logic.{◌≢◌}
 use mathlib.Core.Bool.{Bool, true, false, cond}
 use mathlib.Core.List.{List, [], ◌∷◌}
-use Prim.Native.Nat.{ℕ, suc, ◌+◌, ◌-◌, ◌≤◌, ◌<◌}
+use Prim.Native.Nat.{ℕ, suc, ◌+◌, ◌≤◌, ◌<◌}
 use native.Mathlib.Decide.{ℕ_discrete}
 use native.Mathlib.Numerals.{add-one}
 use native.Mathlib.Omega.{arith}
 use lib.Dec.{eqb}
-use lib.ListN.{length, get_or, set, length-set}
-use lib.Seq.{get_or-set_same, get_or-set_other, slice, slice-cons, slice_empty}
+use lib.ListN.{length, get_or, set, drop, length-set, drop_of_length-le}
+use lib.Seq.{get_or-set_same, get_or-set_other, drop-cons}
 use borrow.Author.Tests.{eqb-true, eqb-false}
 use Rattle.graph.specs.Rows.{at}
 use Rattle.points.specs.Positions.{position, place}
@@ -50,37 +50,24 @@ stored-own i (q ∷ row) pos p l e = go (eqb p q) refl e (stored-own (suc i) row
     go false f z ih = ih (omega arith) ∙ omega arith
 
 -- A row is being stored: what is left to store, from the point at i on, gives the whole.
-pub record Storing (order : List ℕ) (a b : ℕ) (pos₀ : List ℕ) (i : ℕ) (pos : List ℕ) : Type 0 where
-  pub from : a ≤ i
-  pub within : i ≤ b
+pub record Storing (row pos₀ : List ℕ) (i : ℕ) (pos : List ℕ) : Type 0 where
   pub long : length pos ≡ length pos₀
-  pub rest : stored (i - a) (slice i b order) pos ≡ stored 0 (slice a b order) pos₀
+  pub rest : stored i (drop i row) pos ≡ stored 0 row pos₀
 
-module _ {order : List ℕ} {a b : ℕ} {pos₀ : List ℕ} where
-  pub storing-start : a ≤ b → Storing order a b pos₀ a pos₀
-  storing-start h =
-      let e : a - a ≡ 0 = omega arith in
-      record { from = omega arith; within = h; long = refl; rest = ap (λ (k : ℕ). stored k (slice a b order) pos₀) e }
+module _ {row pos₀ : List ℕ} where
+  pub storing-start : Storing row pos₀ 0 pos₀
+  storing-start = record { long = refl; rest = refl }
 
-  pub storing-turn : {i : ℕ} {pos : List ℕ} → Storing order a b pos₀ i pos → i < b → b ≤ length order
-      → Storing order a b pos₀ (i + 1) (set pos (at order i) (i - a))
+  pub storing-turn : {i : ℕ} {pos : List ℕ} → Storing row pos₀ i pos → i < length row → Storing row pos₀ (i + 1) (set pos (at row i) i)
   unfolding stored
-  storing-turn {i} {pos} s l m =
-      let k = s.from in
-      let e : suc i - a ≡ suc (i - a) = omega arith in
-      record {
-        from = omega arith;
-        within = omega arith;
-        long = length-set pos (at order i) (i - a) ∙ s.long;
-        rest = rw (add-one i, e) (rw (slice-cons i b order 0 l m) at s.rest);
-      }
+  storing-turn {i} {pos} s l = record {
+    long = length-set pos (at row i) i ∙ s.long;
+    rest = rw add-one (rw (drop-cons row i 0 l) at s.rest);
+  }
 
-  pub storing-end : {i : ℕ} {pos : List ℕ} → Storing order a b pos₀ i pos → b ≤ i → pos ≡ stored 0 (slice a b order) pos₀
+  pub storing-end : {i : ℕ} {pos : List ℕ} → Storing row pos₀ i pos → length row ≤ i → pos ≡ stored 0 row pos₀
   unfolding stored
-  storing-end {i} {pos} s l =
-      let w = s.within in
-      let e : i ≡ b = omega arith in
-      ap (λ (t : List ℕ). stored (i - a) t pos) (sym (slice_empty b order)) ∙ ap (λ (k : ℕ). stored (i - a) (slice k b order) pos) (sym e) ∙ s.rest
+  storing-end {i} {pos} s l = rw (drop_of_length-le row {i = i} l) at s.rest
 
 -- ---- places
 

@@ -7,15 +7,14 @@ use native.Mathlib.Decide.{ℕ_discrete}
 use native.Mathlib.Omega.{arith}
 use lib.Dec.{ltb}
 use lib.ListN.{length, get_or, get_or-eq_default}
-use lib.Seq.{slice}
 use borrow.Author.Tests.{eq-eqb, ne_eqb, ltb-true, ltb-false}
 use Rattle.graph.specs.Rows.{at}
-use Rattle.points.specs.Positions.{position, place}
+use Rattle.points.specs.Positions.{position, place, row_at}
 use Rattle.buffers.specs.Lists.{Below, occurs}
 use Rattle.points.proofs.PositionLaws.{position_in}
 use Rattle.passes.specs.Laid.{stored, Ranked, Laid, Placeable, Positioned}
 use Rattle.passes.proofs.PlaceLaws.{stored_other, stored-own}
-use Rattle.passes.proofs.LaidLaws.{points-end, row-slice, row-short, row-rises, row_inside, points-below}
+use Rattle.passes.proofs.LaidLaws.{points-end, row-part, row-short, row-rises, row_inside, points-below}
 
 -- the points of the rows before row r have their positions
 pub record PlacedRows (count : ℕ) (order first : List ℕ) (r : ℕ) (pos : List ℕ) : Type 0 where
@@ -52,12 +51,12 @@ module _ {count : ℕ} {order first pos₀ : List ℕ} (s : Placeable count orde
 
   -- Row r is stored: its points get their positions, and no other point stands in it.
   pub placed-turn : {r : ℕ} {pos : List ℕ} → r < count → length pos ≡ length pos₀ → PlacedRows count order first r pos
-      → {pos' : List ℕ} → pos' ≡ stored 0 (slice (at first r) (at first (r + 1)) order) pos → PlacedRows count order first (r + 1) pos'
+      → {pos' : List ℕ} → pos' ≡ stored 0 (row_at first order r) pos → PlacedRows count order first (r + 1) pos'
   unfolding place
   placed-turn {r} {pos} l long h {pos'} e = record { places = places }
     where
       is : (ys : List ℕ) (o : List (List ℕ)) → Ranked ys count o order first → pos' ≡ stored 0 (get_or o r []) pos
-      is ys o k = e ∙ ap (λ (t : List ℕ). stored 0 t pos) (row-slice ys count o order first k r l)
+      is ys o k = e ∙ ap (λ (t : List ℕ). stored 0 t pos) (row-part ys count o order first k r l)
 
       places : (ys : List ℕ) (o : List (List ℕ)) → Ranked ys count o order first → (p : ℕ) → p < length ys → at ys p < r + 1
           → at pos' p ≡ position p (get_or o (at ys p) [])
@@ -91,7 +90,7 @@ module _ {count : ℕ} {order first pos₀ : List ℕ} (s : Placeable count orde
     pub ends-within : at first (r + 1) ≤ length order
     ends-within = omega (arith, row_inside s.ys count s.o order first s.ranked r l, s.ranked.order_long)
 
-    pub points-within : (pos : List ℕ) → length pos ≡ length pos₀ → Below (length pos) (slice (at first r) (at first (r + 1)) order)
+    pub points-within : (pos : List ℕ) → length pos ≡ length pos₀ → Below (length pos) (row_at first order r)
     points-within pos long =
-        subst (Below (length pos)) (sym (row-slice s.ys count s.o order first s.ranked r l))
+        subst (Below (length pos)) (sym (row-part s.ys count s.o order first s.ranked r l))
         (points-below s.ys count s.o order first s.ranked r l (length pos) (omega (arith, s.pos_long)))

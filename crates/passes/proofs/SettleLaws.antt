@@ -4,7 +4,7 @@ use mathlib.Core.List.{List, []}
 use Prim.Native.Nat.{ℕ, ◌+◌, ◌≤◌, ◌<◌}
 use native.Mathlib.Omega.{arith}
 use lib.ListN.{length, get_or, set}
-use lib.Seq.{slice, get_or-set_same}
+use lib.Seq.{get_or-set_same}
 use Rattle.graph.specs.Rows.{at}
 use Rattle.barycentre.specs.Means.{reorder}
 use Rattle.points.specs.Positions.{place, row_at}
@@ -12,15 +12,15 @@ use Rattle.passes.specs.Order.{settle_row}
 use Rattle.barycentre.specs.Flat.{ends_in, arranged_by}
 use Rattle.buffers.specs.Lists.{Below}
 use Rattle.buffers.proofs.ListLaws.{below-higher}
-use Rattle.barycentre.specs.Bounds.{EndsSummable, RowSummable, Known, Ready}
+use Rattle.barycentre.specs.Bounds.{EndsSummable, RowSummable, RowCounted}
 use Rattle.barycentre.specs.Steps.{Totalled}
 use Rattle.passes.specs.Laid.{stored, Ranked, Laid, SegmentEnds, Standing, Changed, ChangedBy}
 use Rattle.barycentre.proofs.CountLaws.{counts-low, listed-ends}
-use Rattle.barycentre.proofs.TotalLaws.{totalled-low, totalled-ends}
+use Rattle.barycentre.proofs.TotalLaws.{totalled-ends}
 use Rattle.barycentre.proofs.ReorderLaws.{reorder-occurs, reorder-length}
 use Rattle.barycentre.proofs.EndsLaws.{reorder-agree, arranged_is}
 use Rattle.passes.proofs.PositionLaws.{position-low}
-use Rattle.passes.proofs.LaidLaws.{with_row, points-end, points-below, row-part, row-slice, row-rises, row_inside, row-short, put-ranked, put-laid}
+use Rattle.passes.proofs.LaidLaws.{with_row, points-end, points-below, row-part, row-rises, row_inside, row-short, put-ranked, put-laid}
 
 -- the settled row
 abbrev settled : List ℕ → List ℕ → List ℕ → List (List ℕ) → ℕ → List ℕ
@@ -46,7 +46,7 @@ module _ {near far head next counts first order pos totals : List ℕ} {count r 
       ∙ reorder-agree near far (at pos) (place ys o) (length ys) (get_or o r []) h.places (omega (arith, ends.one_each)) (below-higher ends.far_in (omega arith))
 
   pub settle-changed : {now order' pos' : List ℕ} → now ≡ arranged_by totals counts (row_at first order r) → order' ≡ with_row first order r now
-      → pos' ≡ stored 0 (slice (at first r) (at first (r + 1)) order') pos
+      → pos' ≡ stored 0 now pos
       → Changed count (λ ys. settle_row (ends_in near far) ys r) first order pos order' pos'
   unfolding settle_row
   settle-changed {now} {order'} {pos'} en eo ep = record { laid = laid }
@@ -57,18 +57,14 @@ module _ {near far head next counts first order pos totals : List ℕ} {count r 
           let occ = reorder-occurs (ends_in near far) (place ys o) (get_or o r []) in
           let len = reorder-length (ends_in near far) (place ys o) (get_or o r []) in
           let eo' : order' ≡ with_row first order r s = eo ∙ ap (with_row first order r) (en ∙ arranged-settled ys o h) in
-          let part : slice (at first r) (at first (r + 1)) order' ≡ s =
-          ap (slice (at first r) (at first (r + 1))) eo'
-          ∙ row-slice ys count (set o r s) (with_row first order r s) first (put-ranked ys count o order first h.ranked r l s occ len) r l
-          ∙ get_or-set_same o r s [] (rw h.ranked.rows l) in
           subst (λ (x : List ℕ). Laid ys count (set o r s) x first pos') (sym eo')
-          (subst (λ (x : List ℕ). Laid ys count (set o r s) (with_row first order r s) first x) (sym (ep ∙ ap (λ (t : List ℕ). stored 0 t pos) part))
+          (subst (λ (x : List ℕ). Laid ys count (set o r s) (with_row first order r s) first x) (sym (ep ∙ ap (λ (t : List ℕ). stored 0 t pos) (en ∙ arranged-settled ys o h)))
           (put-laid ys count o order first pos h r l s occ len))
 
 -- So it is whatever the near ends are, of which the lists were made.
 pub settle-changes : {far head next counts first order pos totals now order' pos' : List ℕ} {count r : ℕ} → r < count
     → Totalled (row_at first order r) head next far pos totals → now ≡ arranged_by totals counts (row_at first order r)
-    → order' ≡ with_row first order r now → pos' ≡ stored 0 (slice (at first r) (at first (r + 1)) order') pos
+    → order' ≡ with_row first order r now → pos' ≡ stored 0 now pos
     → ChangedBy far head next counts count (λ near ys. settle_row (ends_in near far) ys r) first order pos order' pos'
 settle-changes l t en eo ep = record { by = λ near ends. settle-changed l ends t en eo ep }
 
@@ -106,21 +102,13 @@ module _ {far head next counts order first pos totals moved : List ℕ} {count :
           room = row_below s.laid l (omega (arith, end_is, s.totals_long));
         }
 
-    pub row-ready : {sums : List ℕ} → length sums ≡ length totals → Totalled (row_at first order r) head next far pos sums → Ready sums counts (row_at first order r) moved
-    row-ready {sums} long t = record { known = record { each = known }; room = rw e (omega (arith, row-short s.ys count s.o order first s.laid.ranked r l, end_is, s.moved_long)) }
-      where
-        e : row_at first order r ≡ get_or s.o r []
-        e = row-part s.ys count s.o order first s.laid.ranked r l
-
-        known : (i : ℕ) → i < length (row_at first order r) → Known sums counts (at (row_at first order r) i)
-        known i h =
-            let counted : at (row_at first order r) i < length counts = (row_below {n = length counts} s.laid l (omega (arith, end_is, s.ends.counts_long))).below i h in
-            record {
-              total_in = omega (arith, row-summable.room.below i h);
-              count_in = counted;
-              total_low = totalled-low row-summable t i h;
-              count_low = counts-low s.near far counts s.ends.few_ends s.ends.counted (at (row_at first order r) i) counted;
-            }
+    pub row_counted : RowCounted (row_at first order r) counts moved
+    row_counted =
+        record {
+          counted = row_below s.laid l (omega (arith, end_is, s.ends.counts_long));
+          few = λ i h. counts-low s.near far counts s.ends.few_ends s.ends.counted (at (row_at first order r) i) ((row_below {n = length counts} s.laid l (omega (arith, end_is, s.ends.counts_long))).below i h);
+          room = rw (row-part s.ys count s.o order first s.laid.ranked r l) (omega (arith, row-short s.ys count s.o order first s.laid.ranked r l, end_is, s.moved_long));
+        }
 
     -- the order with the row put in order
     module _ {sums : List ℕ} (t : Totalled (row_at first order r) head next far pos sums) {now : List ℕ} (e : now ≡ arranged_by sums counts (row_at first order r)) where
@@ -134,10 +122,7 @@ module _ {far head next counts order first pos totals moved : List ℕ} {count :
           (reorder-occurs (ends_in s.near far) (place s.ys s.o) (get_or s.o r []))
           (reorder-length (ends_in s.near far) (place s.ys s.o) (get_or s.o r [])))
 
-      pub now-within : at first (r + 1) ≤ length (with_row first order r now)
-      now-within = omega (arith, row_inside s.ys count (set s.o r now) (with_row first order r now) first now-ranked r l, now-ranked.order_long)
-
-      pub now-points : Below (length pos) (slice (at first r) (at first (r + 1)) (with_row first order r now))
+      pub now-points : Below (length pos) now
       now-points =
-          subst (Below (length pos)) (sym (row-slice s.ys count (set s.o r now) (with_row first order r now) first now-ranked r l))
+          subst (Below (length pos)) (get_or-set_same s.o r now [] (rw s.laid.ranked.rows l))
           (points-below s.ys count (set s.o r now) (with_row first order r now) first now-ranked r l (length pos) s.laid.pos_long)

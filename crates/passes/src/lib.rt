@@ -1,29 +1,33 @@
 // Passes over an order that is kept flat: row by row the points are put in order, and their positions stored.
+//
+// `Standing` stays a clause: it says that there is some order, and a fact of a type is a proposition with one proof.
 #![tactic(auto)]
 
 pub mod start;
 
-ghost use Rattle.std.specs.Prelude.{◌≡◌, ◌≤◌, ◌<◌, length};
-ghost use Rattle.std.proofs.Math.Seq.{slice};
+ghost use Rattle.std.specs.Prelude.{◌≡◌, ◌<◌, length};
 ghost use Rattle.passes.specs.Order.{settle_row, pass, downward, upward};
 ghost use Rattle.buffers.specs.Lists.{Below};
 ghost use Rattle.barycentre.specs.Flat.{ends_in};
 ghost use Rattle.passes.specs.Laid.{stored, segments_in, rows_held, Standing, ChangedBy, Placeable, Positioned};
 
-use barycentre::{reorder_row, total_row};
+use barycentre::reorder_row;
+use points::lists::Side;
 
-// The positions of the points from entry a to entry b of the order, stored by point.
-pub fn place_row(order: &[usize], a: usize, b: usize, pos: &mut [usize])
-    requires a_le_b { a ≤ b }
-    requires b_in_bounds { b ≤ length order.now }
-    requires below { Below (length pos.old) (slice a b order.now) }
-    ensures { pos.new ≡ stored 0 (slice a b order.now) pos.old }
+// Room for the work of a pass: a sum by point, and a row.
+#[derive(Drop)]
+pub struct Work<'a> {
+    pub totals: &'a mut [usize],
+    pub moved: &'a mut [usize],
+}
+
+// The positions of the points of a row, stored by point.
+pub fn place_row(row: &[usize], pos: &mut [usize])
+    requires { Below (length pos.old) row.now }
+    ensures { pos.new ≡ stored 0 row.now pos.old }
 {
-    let mut i = a;
-    while i < b {
-        let p = order[i];
-        pos[p] = i - a;
-        i += 1;
+    for (i, &p) in row.iter().enumerate() {
+        pos[p] = i;
     }
 }
 
@@ -32,93 +36,68 @@ pub fn place_all(order: &[usize], first: &[usize], pos: &mut [usize])
     requires { Placeable (rows_held first.now) order.now first.now pos.old }
     ensures { Positioned (rows_held first.now) order.now first.now pos.new }
 {
-    let count = first.len() - 1;
-    let mut r = 0;
-    while r < count {
-        place_row(order, first[r], first[r + 1], pos);
-        r += 1;
+    for (&a, &b) in first.iter().zip(&first[1..]) {
+        place_row(&order[a..b], pos);
     }
 }
 
 // Row r put in order by the positions of the far ends of its points, and its positions stored.
 fn settle_row(
-    far: &[usize],
-    head: &[usize],
-    next: &[usize],
-    counts: &[usize],
+    side: &Side<'_>,
     first: &[usize],
     r: usize,
     order: &mut [usize],
     pos: &mut [usize],
-    totals: &mut [usize],
-    moved: &mut [usize],
+    work: &mut Work<'_>,
 )
-    requires standing { Standing far.now head.now next.now counts.now (rows_held first.now) order.old first.now pos.old totals.old moved.old }
+    requires standing { Standing side.now.far.now side.now.head.now side.now.next.now side.now.counts.now (rows_held first.now) order.old first.now pos.old work.old.totals.now work.old.moved.now }
     requires r_bound { r < rows_held first.now }
-    ensures { ChangedBy far.now head.now next.now counts.now (rows_held first.now) (λ near ys. settle_row (ends_in near far.now) ys r) first.now order.old pos.old order.new pos.new }
+    ensures changed { ChangedBy side.now.far.now side.now.head.now side.now.next.now side.now.counts.now (rows_held first.now) (λ near ys. settle_row (ends_in near side.now.far.now) ys r) first.now order.old pos.old order.new pos.new }
+    ensures totals_kept { length work.new.totals.now ≡ length work.old.totals.now }
+    ensures moved_kept { length work.new.moved.now ≡ length work.old.moved.now }
 {
     let a = first[r];
     let b = first[r + 1];
     let row = &mut order[a..b];
-    total_row(row, head, next, far, pos, totals);
-    reorder_row(row, totals, counts, moved);
-    place_row(order, a, b, pos);
+    reorder_row(row, side, pos, work.totals, work.moved);
+    place_row(row, pos);
 }
 
-// A pass down: the rows from row 1 on, each by the row above.
+// A pass down: the rows from row 1 on, each by the row above, of which the side has the segments.
+// By number: a row is its number in `first`.
 pub fn pass_down(
-    upper: &[usize],
-    head: &[usize],
-    next: &[usize],
-    counts: &[usize],
+    side: &Side<'_>,
     first: &[usize],
     order: &mut [usize],
     pos: &mut [usize],
-    totals: &mut [usize],
-    moved: &mut [usize],
+    work: &mut Work<'_>,
 )
-    requires { Standing upper.now head.now next.now counts.now (rows_held first.now) order.old first.now pos.old totals.old moved.old }
-    ensures { ChangedBy upper.now head.now next.now counts.now (rows_held first.now) (λ lower ys. pass (segments_in upper.now lower) ys downward) first.now order.old pos.old order.new pos.new }
+    requires { Standing side.now.far.now side.now.head.now side.now.next.now side.now.counts.now (rows_held first.now) order.old first.now pos.old work.old.totals.now work.old.moved.now }
+    ensures changed { ChangedBy side.now.far.now side.now.head.now side.now.next.now side.now.counts.now (rows_held first.now) (λ lower ys. pass (segments_in side.now.far.now lower) ys downward) first.now order.old pos.old order.new pos.new }
+    ensures totals_kept { length work.new.totals.now ≡ length work.old.totals.now }
+    ensures moved_kept { length work.new.moved.now ≡ length work.old.moved.now }
 {
     let count = first.len() - 1;
-    let mut r = 1;
-    while r < count {
-        settle_row(
-            upper, head, next, counts, first, r, order, pos, totals, moved,
-        );
-        r += 1;
+    for r in 1..count {
+        settle_row(side, first, r, order, pos, work);
     }
 }
 
-// A pass up: the rows from the second-last to row 0, each by the row below.
+// A pass up: the rows from the second-last to row 0, each by the row below, of which the side has the segments. By number, as a pass down.
 pub fn pass_up(
-    lower: &[usize],
-    head: &[usize],
-    next: &[usize],
-    counts: &[usize],
+    side: &Side<'_>,
     first: &[usize],
     order: &mut [usize],
     pos: &mut [usize],
-    totals: &mut [usize],
-    moved: &mut [usize],
+    work: &mut Work<'_>,
 )
-    requires { Standing lower.now head.now next.now counts.now (rows_held first.now) order.old first.now pos.old totals.old moved.old }
-    ensures { ChangedBy lower.now head.now next.now counts.now (rows_held first.now) (λ upper ys. pass (segments_in upper lower.now) ys upward) first.now order.old pos.old order.new pos.new }
+    requires { Standing side.now.far.now side.now.head.now side.now.next.now side.now.counts.now (rows_held first.now) order.old first.now pos.old work.old.totals.now work.old.moved.now }
+    ensures changed { ChangedBy side.now.far.now side.now.head.now side.now.next.now side.now.counts.now (rows_held first.now) (λ upper ys. pass (segments_in upper side.now.far.now) ys upward) first.now order.old pos.old order.new pos.new }
+    ensures totals_kept { length work.new.totals.now ≡ length work.old.totals.now }
+    ensures moved_kept { length work.new.moved.now ≡ length work.old.moved.now }
 {
-    let mut r = first.len() - 1;
-    while r > 1 {
-        settle_row(
-            lower,
-            head,
-            next,
-            counts,
-            first,
-            r - 2,
-            order,
-            pos,
-            totals,
-            moved,
-        );
-        r -= 1;
+    let count = first.len() - 1;
+    for r in (1..count).rev() {
+        settle_row(side, first, r - 1, order, pos, work);
     }
 }

@@ -3,7 +3,7 @@ use mathlib.Core.Path.{◌≡◌, sym, ap, ◌∙◌, subst}
 use mathlib.Core.List.{List, [], ◌∷◌, ◌++◌, append-nil, reverse}
 use Prim.Native.Nat.{ℕ, suc, ◌+◌, ◌-◌, ◌≤◌, ◌<◌}
 use native.Mathlib.Omega.{arith}
-use lib.ListN.{length, get_or, take, drop, set, take-append-drop, length-set, length-drop, drop_of_length-le}
+use lib.ListN.{length, get_or, take, drop, set, take-append-drop, length-drop, drop_of_length-le}
 use lib.Seq.{drop-cons, append_snoc, take_all, take_at, length-take-le, take-set-le, drop-set-lt, drop-set-add, take-suc-set, get_or-drop}
 use borrow.Rule.Slice.PartMut.{put_mid}
 use Rattle.permutations.specs.Next.{last, to, above, exchanged, next_with, next_order}
@@ -22,9 +22,6 @@ next-exchanged x l j e k = rw (e, k)
 -- the points at i and j exchanged
 abbrev pub swapped : List ℕ → ℕ → ℕ → List ℕ
 swapped p i j = set (set p i (get_or p j 0)) j (get_or p i 0)
-
-pub swapped-long : (p : List ℕ) (i j : ℕ) → length (swapped p i j) ≡ length p
-swapped-long p i j = simp length-set
 
 module _ (p : List ℕ) (i r j : ℕ) (e : suc i ≡ r) (h : r ≤ j) (k : j < length p) where
   -- the points behind the place of the change, with the exchanged one among them
@@ -68,12 +65,12 @@ tail_turned r w y h e =
 
 -- What is left in place is the next order. The points before the change stay; the exchanged one follows, and behind it the others,
 -- which fell before and rise now.
-pub advanced : (p : List ℕ) (r j : ℕ) (q : List ℕ) → Pivot p r → RunIs p r (get_or p (r - 1) 0) j
-    → q ≡ take r (swapped p (r - 1) j) ++ reverse (drop r (swapped p (r - 1) j)) → Advanced p r q
-advanced p r j q v s e =
+pub advanced : (p : List ℕ) (r j : ℕ) (m q : List ℕ) → Pivot p r → RunIs p r (get_or p (r - 1) 0) j → m ≡ swapped p (r - 1) j
+    → q ≡ take r m ++ reverse (drop r m) → Advanced p r q
+advanced p r j m q v s k e =
     let i : suc (r - 1) ≡ r = omega (arith, v.behind) in
     let w : q ≡ take (r - 1) p ++ (get_or p j 0 ∷ reverse (set (drop r p) (j - r) (get_or p (r - 1) 0))) =
-    e ∙ turned-is p (r - 1) r j i s.after s.inside in
+    e ∙ ap (λ (l : List ℕ). take r l ++ reverse (drop r l)) k ∙ turned-is p (r - 1) r j i s.after s.inside in
     record {
       next = next-is p (r - 1) r j i s.after s.inside v.last_rest s.run ∙ ap to (sym w);
       begins = ap (take (r - 1)) w ∙ begins-same p (r - 1) r j i s.after s.inside;

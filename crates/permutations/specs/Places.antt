@@ -1,5 +1,5 @@
 -- What the steps from an order to the next one find and leave, by places in it.
-use Rattle.std.specs.Prelude.{◌≡◌, List, ℕ, suc, ◌-◌, ◌≤◌, ◌<◌, length, get_or, take, drop}
+use Rattle.std.specs.Prelude.{◌≡◌, List, ℕ, suc, ◌-◌, ◌≤◌, ◌<◌, length, get_or, take, drop, Option, Some, None}
 use Rattle.permutations.specs.Next.{last, to, above, next_order}
 
 -- The points from place r on have no next order, and the one before them is smaller than the first of them.
@@ -9,10 +9,10 @@ pub record Pivot (p : List ℕ) (r : ℕ) : Type 0 where
   pub last_rest : next_order (drop r p) ≡ last
   pub rises : get_or p (r - 1) 0 < get_or p r 0
 
--- the place behind the point that is to change, or 0 where the order is the last
-pub record PivotIs (p : List ℕ) (r : ℕ) : Type 0 where
-  pub ended : r ≡ 0 → next_order p ≡ last
-  pub found : 0 < r → Pivot p r
+-- the place behind the point that is to change, or none where the order is the last
+abbrev pub PivotIs : List ℕ → Option ℕ → Type 0
+PivotIs p None = next_order p ≡ last
+PivotIs p (Some r) = Pivot p r
 
 -- j is the last of the places from r on, one after the other, whose points are larger than x
 pub record RunIs (p : List ℕ) (r x j : ℕ) : Type 0 where

@@ -4,21 +4,11 @@
 ghost use Rattle.std.specs.Prelude.{◌<◌, length, get_or};
 ghost use Rattle.permutations.specs.Places.{Pivot, PivotIs, RunIs, Advanced};
 
-// The place behind the last point that has a larger one behind it, or 0 where the order is the last.
-pub fn find_pivot(p: &[u8]) -> usize
+// The place behind the last point that has a larger one behind it, or none where the order is the last.
+pub fn find_pivot(p: &[u8]) -> Option<usize>
     ensures { PivotIs p.now result }
 {
-    if p.len() == 0 {
-        return 0;
-    }
-    let mut i = p.len() - 1;
-    while 0 < i {
-        if p[i - 1] < p[i] {
-            return i;
-        }
-        i -= 1;
-    }
-    0
+    (1..p.len()).rev().find(|&i| p[i - 1] < p[i])
 }
 
 // The last of the places from r on, one after the other, whose points are larger than x.
@@ -27,14 +17,7 @@ fn find_larger(p: &[u8], r: usize, x: u8) -> usize
     requires x_bound { x < get_or p.now r 0 }
     ensures { RunIs p.now r x result }
 {
-    let mut j = r + 1;
-    while j < p.len() {
-        if p[j] <= x {
-            return j - 1;
-        }
-        j += 1;
-    }
-    j - 1
+    r + p[r..].iter().take_while(|&&y| x < y).count() - 1
 }
 
 // The next order: the point before place r changes places with the smallest larger one behind it, and those from r on are turned
@@ -43,9 +26,7 @@ pub fn advance(p: &mut [u8], r: usize)
     requires { Pivot p.old r }
     ensures { Advanced p.old r p.new }
 {
-    let x = p[r - 1];
-    let j = find_larger(p, r, x);
-    p[r - 1] = p[j];
-    p[j] = x;
+    let j = find_larger(p, r, p[r - 1]);
+    p.swap(r - 1, j);
     p[r..].reverse();
 }

@@ -1,5 +1,5 @@
 -- Strokes for C: what the word of an answer tells, the floats beside it, and that they are exact.
-use Rattle.std.specs.Prelude.{◌≡◌, false, List, [], ◌∷◌, ℕ, suc, ◌<◌, pos, Float}
+use Rattle.std.specs.Prelude.{◌≡◌, false, List, [], ◌∷◌, ℕ, suc, ◌<◌, pos, Float, Option, Some, None, Result, Ok, Err}
 use Rattle.std.specs.Float.{fin}
 use Rattle.outcome.specs.declared.Refusal.{Refusal}
 use Rattle.outcome.specs.Refusal.{numbers_of, step_of}
@@ -9,8 +9,6 @@ use Rattle.corners.specs.declared.Corner.{Corner}
 use Rattle.corners.specs.declared.Stroke.{Stroke}
 use Rattle.corners.specs.declared.Stroke.TheVariants.{Move, Line}
 use Rattle.corners.specs.Strokes.{end_of}
-use Rattle.strokes.specs.declared.StrokeAnswer.{StrokeAnswer}
-use Rattle.strokes.specs.declared.StrokeAnswer.TheVariants.{At, Nothing, Refused}
 use Rattle.strokes.specs.Calls.{CornerExact}
 use Rattle.words.specs.Words.{second, stroke_read, done_word}
 use Rattle.plain.specs.declared.PlainStroke.{PlainStroke}
@@ -21,10 +19,10 @@ case_of (Move c) = 1
 case_of (Line c) = 2
 
 -- All that an answer tells in numbers: 0 and the case, which is 0 where there is none, or a refusal.
-abbrev pub stroke_numbers : StrokeAnswer → List ℕ
-stroke_numbers (At s) = 0 ∷ case_of s ∷ []
-stroke_numbers Nothing = 0 ∷ 0 ∷ []
-stroke_numbers (Refused r) = numbers_of r
+abbrev pub stroke_numbers : Result (Option Stroke) Refusal → List ℕ
+stroke_numbers (Ok (Some s)) = 0 ∷ case_of s ∷ []
+stroke_numbers (Ok None) = 0 ∷ 0 ∷ []
+stroke_numbers (Err r) = numbers_of r
 
 abbrev pub zero32 : Float
 zero32 = fin false 0 (pos 0)
@@ -40,16 +38,16 @@ abbrev pub plain_refusal : Refusal → PlainStroke
 plain_refusal r = bare_word (done_word (numbers_of r))
 
 -- an answer in plain numbers: where there is no stroke both floats are 0
-abbrev pub plain_answer : StrokeAnswer → PlainStroke
-plain_answer (At s) = plain_stroke s
-plain_answer Nothing = bare_word 0
-plain_answer (Refused r) = plain_refusal r
+abbrev pub plain_answer : Result (Option Stroke) Refusal → PlainStroke
+plain_answer (Ok (Some s)) = plain_stroke s
+plain_answer (Ok None) = bare_word 0
+plain_answer (Err r) = plain_refusal r
 
 -- the step that comes with a loop fits its byte
-abbrev pub StepFits : StrokeAnswer → Type 0
-StepFits (At s) = Unit {0}
-StepFits Nothing = Unit {0}
-StepFits (Refused r) = step_of r < second
+abbrev pub StepFits : Result (Option Stroke) Refusal → Type 0
+StepFits (Ok (Some s)) = Unit {0}
+StepFits (Ok None) = Unit {0}
+StepFits (Err r) = step_of r < second
 
 -- the two floats as a corner
 abbrev pub corner_in : PlainStroke → Corner

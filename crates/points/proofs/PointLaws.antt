@@ -2,13 +2,17 @@
 use mathlib.Core.Path.{◌≡◌, refl, sym, ap, ◌∙◌}
 use mathlib.Core.List.{List, [], ◌∷◌, ◌++◌, map}
 use Prim.Native.Nat.{ℕ, zero, suc, ◌+◌, ◌-◌, ◌≤◌, ◌<◌}
-use native.Mathlib.Numerals.{add-one}
 use native.Mathlib.Omega.{arith}
-use lib.ListN.{length, length-append, length-map}
+use lib.ListN.{length, take, drop, length-append, length-map, length-drop}
+use lib.Seq.{length-take-le}
 use Rattle.graph.specs.declared.Edge.{Edge}
 use Rattle.graph.specs.Rows.{at}
 use Rattle.graph.specs.Search.{run}
-use Rattle.points.specs.Points.{Dummy, Segment, between, dummies, point_rows, chain, segments_from, segments}
+use Rattle.buffers.specs.Written.{Stored}
+use Rattle.buffers.proofs.RunLaws.{run_length}
+use Rattle.buffers.proofs.WriteLaws.{stored-put}
+use Rattle.points.specs.declared.dummy.Dummy.{Dummy}
+use Rattle.points.specs.Points.{Segment, between, dummies, point_rows, chain, segments_from, segments}
 use Rattle.points.specs.Laying.{edges_between, uppers, lowers}
 use Rattle.points.proofs.EdgeLaws.{between_at, between_all, dummy_rows, edges_from, rows-length, segments-turn}
 
@@ -38,18 +42,25 @@ rows_are ys edges = ap (λ l. ys ++ l) (dummies-rows ys 0 edges)
 pub points-length : (ys : List ℕ) (edges : List Edge) → length (point_rows ys edges) ≡ length ys + between_all ys edges
 points-length ys edges = ap length (rows_are ys edges) ∙ length-append ys (dummy_rows ys edges) ∙ ap (λ (k : ℕ). length ys + k) (rows-length ys edges)
 
--- ---- the chain of an edge, segment by segment
+-- ---- the chain of an edge: its upper ends, and its lower
 
-chain-step : (u b p e j : ℕ) → e - p ≡ suc j → chain u b p (e - p) ≡ record { upper = u; lower = p } ∷ chain p b (suc p) j
-unfolding chain
-chain-step u b p e j k = rw k
+pub chain-uppers : (a b d k : ℕ) → uppers (chain a b d k) ≡ a ∷ run d k
+unfolding chain run
+chain-uppers a b d zero = refl
+chain-uppers a b d (suc k) = ap (λ (l : List ℕ). a ∷ l) (chain-uppers d b (suc d) k)
 
-pub chain-turn : (u b p e : ℕ) → p < e → chain u b p (e - p) ≡ record { upper = u; lower = p } ∷ chain p b (p + 1) (e - (p + 1))
-chain-turn u b p e h = rw (add-one p) (chain-step u b p e (e - suc p) (omega arith))
+pub chain-lowers : (a b d k : ℕ) → lowers (chain a b d k) ≡ run d k ++ (b ∷ [])
+unfolding chain run
+chain-lowers a b d zero = refl
+chain-lowers a b d (suc k) = ap (λ (l : List ℕ). d ∷ l) (chain-lowers d b (suc d) k)
 
-pub chain-end : (u b p e : ℕ) → e ≤ p → chain u b p (e - p) ≡ record { upper = u; lower = b } ∷ []
-unfolding chain
-chain-end u b p e h = let k : e - p ≡ 0 = omega arith in rw k
+-- consecutive numbers put in the place of the entries from p up to q
+pub stored-run : (l : List ℕ) (p q f g n : ℕ) {vs : List ℕ} → vs ≡ run f (length (take (q - p) (drop p l))) → p ≤ q → q ≤ length l → g ≡ f → n ≡ q - p
+    → Stored l p (run g n) (take p l ++ (vs ++ drop (q - p) (drop p l))) q
+stored-run l p q f g n {vs} e h k same long =
+    let m : length (take (q - p) (drop p l)) ≡ n = length-take-le (q - p) (drop p l) (omega (arith, length-drop p l)) ∙ sym long in
+    let e' : vs ≡ run g n = e ∙ ap (run f) m ∙ ap (λ (x : ℕ). run x n) (sym same) in
+    rw e' (stored-put l p q (run g n) (omega (arith, run_length g n)) k)
 
 -- ---- how many segments there are
 

@@ -9,7 +9,7 @@ use Rattle.points.specs.Points.{row_count}
 use Rattle.buffers.proofs.WriteLaws.{drop-turn}
 
 pub count_turn : (ys : List ℕ) (i count : ℕ) → i < length ys
-    → max (row_count (drop i ys)) count ≡ max (row_count (drop (i + 1) ys)) (max (at ys i + 1) count)
+    → max (row_count (drop i ys)) count ≡ max (row_count (drop (i + 1) ys)) (max count (at ys i + 1))
 unfolding row_count
 count_turn ys i count h = rw (drop-turn ys i h) (omega arith)
 

@@ -22,6 +22,12 @@ unfoldable pub segments_at : List ℕ → ℕ → ℕ → List ℕ
 segments_at near p zero = []
 segments_at near p (suc k) = let rest = segments_at near p k in cond (eqb (at near k) p) (k ∷ rest) rest
 
+-- lists of segments, each with its far end: every list leads to smaller numbers, and starts with a segment or is empty
+pub record Lists (far head next : List ℕ) : Type 0 where
+  pub falls : Falls next
+  pub one_each : length next ≡ length far
+  pub heads_in : (p : ℕ) → p < length head → at head p ≤ length next
+
 -- lists of all segments, one for each point that `head` has
 pub record Linked (near head next : List ℕ) : Type 0 where
   pub long : length next ≡ length near

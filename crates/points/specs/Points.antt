@@ -4,11 +4,7 @@ use Rattle.std.specs.Prelude.{List, [], ◌∷◌, ◌++◌, map, ℕ, zero, suc
 use Rattle.graph.specs.declared.Edge.{Edge}
 use Rattle.graph.specs.Rows.{at, span}
 use Rattle.graph.specs.Search.{run}
-
--- a dummy: the number of its edge, and its row
-pub record Dummy : Type 0 where
-  pub edge : ℕ
-  pub row : ℕ
+use Rattle.points.specs.declared.dummy.Dummy.{Dummy}
 
 -- how many dummies an edge has: one fewer than its length
 abbrev pub between : List ℕ → Edge → ℕ

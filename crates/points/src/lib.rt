@@ -1,6 +1,7 @@
 // The points of a chart: counted, their rows laid out, and the segments between them; and the number of rows.
 #![tactic(auto)]
 
+pub mod dummy;
 pub mod limits;
 pub mod lists;
 
@@ -12,18 +13,63 @@ ghost use Rattle.points.specs.Points.{point_rows, chain, segments, row_count};
 ghost use Rattle.points.specs.Laying.{edges_between, size_limit, Chart, uppers, lowers};
 ghost use Rattle.buffers.specs.Written.{word_limit, Stored};
 
-use buffers::{copy_front, larger_of};
+use buffers::copy_front;
 
-// How many points there are: the nodes, and on each edge one dummy fewer than its length.
-pub fn count_points(rows: &[usize], from: &[usize], to: &[usize]) -> usize
-    requires { Chart rows.now from.now to.now }
-    ensures { result ≡ length (point_rows rows.now (edges_between from.now to.now)) }
-{
-    let mut count = rows.len();
-    for i in 0..from.len() {
-        count += count_between(rows, from[i], to[i]);
+// A chart: the rows of its nodes, and its edges by the lists of their ends.
+#[derive(Clone, Copy)]
+pub struct Layout<'a> {
+    pub rows: &'a [usize],
+    pub from: &'a [usize],
+    pub to: &'a [usize],
+    pub ghost chart: { Chart rows.now from.now to.now },
+}
+
+impl Layout<'_> {
+    // How many points there are: the nodes, and on each edge one dummy fewer than its length.
+    pub fn count_points(&self) -> usize
+        ensures { result ≡ length (point_rows self.now.rows.now (edges_between self.now.from.now self.now.to.now)) }
+    {
+        let mut count = self.rows.len();
+        for (&a, &b) in self.from.iter().zip(self.to) {
+            count += count_between(self.rows, a, b);
+        }
+        count
     }
-    count
+
+    // The row of each point: of the nodes, and then of the dummies by edge. Answers how many there are.
+    // Document 01 asks for arrays of 1,024 rows, so how many are in use is told beside them.
+    pub fn lay_rows(&self, row: &mut [usize]) -> usize
+        requires { length (point_rows self.now.rows.now (edges_between self.now.from.now self.now.to.now)) ≤ length row.old }
+        ensures { Stored row.old 0 (point_rows self.now.rows.now (edges_between self.now.from.now self.now.to.now)) row.new result }
+    {
+        let mut p = copy_front(self.rows, row);
+        for (&a, &b) in self.from.iter().zip(self.to) {
+            let end = p + count_between(self.rows, a, b);
+            number_from(self.rows[a] + 1, &mut row[p..end]);
+            p = end;
+        }
+        p
+    }
+
+    // The ends of each segment, by edge and then downwards. Answers how many segments there are.
+    // They lie in arrays of a constant size, as the rows of points do.
+    pub fn lay_segments(&self, upper: &mut [usize], lower: &mut [usize]) -> usize
+        requires upper_room { length (segments self.now.rows.now (edges_between self.now.from.now self.now.to.now)) ≤ length upper.old }
+        requires lower_room { length (segments self.now.rows.now (edges_between self.now.from.now self.now.to.now)) ≤ length lower.old }
+        ensures stored { Stored upper.old 0 (uppers (segments self.now.rows.now (edges_between self.now.from.now self.now.to.now))) upper.new result }
+        ensures stored_2 { Stored lower.old 0 (lowers (segments self.now.rows.now (edges_between self.now.from.now self.now.to.now))) lower.new result }
+    {
+        let mut d = self.rows.len();
+        let mut s = 0;
+        for (&a, &b) in self.from.iter().zip(self.to) {
+            let k = count_between(self.rows, a, b);
+            let end = s + k + 1;
+            lay_chain(a, b, d, &mut upper[s..end], &mut lower[s..end]);
+            s = end;
+            d += k;
+        }
+        s
+    }
 }
 
 // How many dummies an edge from node a to node b has.
@@ -36,84 +82,29 @@ pub fn count_between(rows: &[usize], a: usize, b: usize) -> usize
     rows[b] - rows[a] - 1
 }
 
-// The row of each point: of the nodes, and then of the dummies by edge. Answers how many there are.
-pub fn lay_rows(rows: &[usize], from: &[usize], to: &[usize], row: &mut [usize]) -> usize
-    requires chart { Chart rows.now from.now to.now }
-    requires to_in_bounds { length (point_rows rows.now (edges_between from.now to.now)) ≤ length row.old }
-    ensures { Stored row.old 0 (point_rows rows.now (edges_between from.now to.now)) row.new result }
+// The numbers from `first` on, one after another.
+fn number_from(first: usize, part: &mut [usize])
+    requires { first + length part.old < word_limit }
+    ensures { part.new ≡ run first (length part.old) }
 {
-    let mut p = copy_front(rows, row);
-    for i in 0..from.len() {
-        p = lay_dummies(rows[from[i]], rows[to[i]], row, p);
+    for (i, place) in part.iter_mut().enumerate() {
+        *place = first + i;
     }
-    p
 }
 
-// The rows of the dummies of an edge from row `top` to row `bottom`, from point `at` on.
-fn lay_dummies(top: usize, bottom: usize, row: &mut [usize], at: usize) -> usize
-    requires top_lt_bottom { top < bottom }
-    requires top_in_bounds { at + (bottom - top - 1) ≤ length row.old }
-    ensures { Stored row.old at (run (suc top) (bottom - top - 1)) row.new result }
+// The ends of the segments from point a to point b over dummies that are numbered from d on, one dummy fewer than there are segments.
+fn lay_chain(a: usize, b: usize, d: usize, upper: &mut [usize], lower: &mut [usize])
+    requires some { 0 < length upper.old }
+    requires both { length lower.old ≡ length upper.old }
+    requires d_bound { d + length upper.old ≤ word_limit }
+    ensures uppers { upper.new ≡ uppers (chain a b d (length upper.old - 1)) }
+    ensures lowers { lower.new ≡ lowers (chain a b d (length upper.old - 1)) }
 {
-    let mut p = at;
-    for r in top + 1..bottom {
-        row[p] = r;
-        p += 1;
-    }
-    p
-}
-
-// The ends of each segment, by edge and then downwards. Answers how many segments there are.
-pub fn lay_segments(
-    rows: &[usize],
-    from: &[usize],
-    to: &[usize],
-    upper: &mut [usize],
-    lower: &mut [usize],
-) -> usize
-    requires chart { Chart rows.now from.now to.now }
-    requires to_in_bounds { length (segments rows.now (edges_between from.now to.now)) ≤ length upper.old }
-    requires to_in_bounds_2 { length (segments rows.now (edges_between from.now to.now)) ≤ length lower.old }
-    ensures stored { Stored upper.old 0 (uppers (segments rows.now (edges_between from.now to.now))) upper.new result }
-    ensures stored_2 { Stored lower.old 0 (lowers (segments rows.now (edges_between from.now to.now))) lower.new result }
-{
-    let mut d = rows.len();
-    let mut s = 0;
-    for i in 0..from.len() {
-        let k = count_between(rows, from[i], to[i]);
-        s = lay_chain(from[i], to[i], d, k, upper, lower, s);
-        d += k;
-    }
-    s
-}
-
-// The segments from point a to point b over k dummies, which are numbered from d on, from entry `at` on.
-fn lay_chain(
-    a: usize,
-    b: usize,
-    d: usize,
-    k: usize,
-    upper: &mut [usize],
-    lower: &mut [usize],
-    at: usize,
-) -> usize
-    requires k_bound { d + k < word_limit }
-    requires k_in_bounds { at + k < length upper.old }
-    requires k_in_bounds_2 { at + k < length lower.old }
-    ensures stored { Stored upper.old at (uppers (chain a b d k)) upper.new result }
-    ensures stored_2 { Stored lower.old at (lowers (chain a b d k)) lower.new result }
-{
-    let mut s = at;
-    let mut last = a;
-    for p in d..d + k {
-        upper[s] = last;
-        lower[s] = p;
-        last = p;
-        s += 1;
-    }
-    upper[s] = last;
-    lower[s] = b;
-    s + 1
+    let last = lower.len() - 1;
+    upper[0] = a;
+    number_from(d, &mut upper[1..]);
+    number_from(d, &mut lower[..last]);
+    lower[last] = b;
 }
 
 // The number of rows.
@@ -122,8 +113,8 @@ pub fn count_rows(rows: &[usize]) -> usize
     ensures { result ≡ row_count rows.now }
 {
     let mut count = 0;
-    for i in 0..rows.len() {
-        count = larger_of(rows[i] + 1, count);
+    for &row in rows {
+        count = count.max(row + 1);
     }
     count
 }

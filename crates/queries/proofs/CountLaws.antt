@@ -1,42 +1,43 @@
 -- The counts call: what it tells of a table that was read, and from its numbers back to the outcome.
-use mathlib.Core.Path.{◌≡◌, sym, ap, ◌∙◌}
+use mathlib.Core.Path.{◌≡◌}
 use mathlib.Core.List.{List, [], ◌∷◌}
 use Prim.Native.Nat.{ℕ, ◌≤◌}
 use native.Mathlib.Omega.{arith}
 use lib.ListN.{length}
+use Rattle.std.specs.Prelude.{Ok, Err}
 use Rattle.outcome.specs.declared.Refusal.{Refusal}
-use Rattle.table.specs.declared.types.TableRead.{TableRead}
+use Rattle.table.specs.declared.types.Table.{Table}
 use Rattle.queries.specs.declared.types.Counts.{Counts}
-use Rattle.queries.specs.declared.types.CountsAnswer.{CountsAnswer}
 use Rattle.table.specs.Limits.{max_steps, max_edges}
 use Rattle.outcome.specs.Refusal.{refused}
 use Rattle.table.specs.Table.{read}
+use Rattle.table.specs.Calls.{read_end, read_call}
 use Rattle.queries.specs.Calls.{counts_of, counts_call, counts_numbers}
 use Rattle.outcome.proofs.ToldLaws.{told-refused, Values, told-done}
+use Rattle.table.proofs.AnswerLaws.{read-refused, read-accepted}
 use Rattle.table.proofs.FairLaws.{read-fair}
-use Rattle.table.proofs.AnswerLaws.{Told}
 
 -- ---- from a table that was read
 
-pub counted : (t : TableRead) (s : List ℕ) → Told t (read s)
-    → counts_numbers (CountsAnswer.Counted (record { steps = t.table.n; edges = t.table.m })) ≡ counts_call s
+pub counted : (s : List ℕ) (t : Table) → read_end (Ok t) ≡ read_call s
+    → counts_numbers (Ok (record { steps = length t.steps.items; edges = length t.edges.items })) ≡ counts_call s
 unfolding counts_call
-counted t s h = rw h.outcome (ap (λ (x : TableRead). 0 ∷ x.table.n ∷ x.table.m ∷ []) h.whole)
+counted s t e = rw (read-accepted s e)
 
-pub counts-refused : (s : List ℕ) {f : Refusal} → read s ≡ refused f → counts_numbers (CountsAnswer.Refused f) ≡ counts_call s
+pub counts_refused : (s : List ℕ) (f : Refusal) → read_end (Err f) ≡ read_call s → counts_numbers (Err f) ≡ counts_call s
 unfolding counts_call
-counts-refused s e = rw e
+counts_refused s f e = rw (read-refused s e)
 
 -- ---- from the answer back to the outcome
 
-module _ (s : List ℕ) {a : CountsAnswer} (e : counts_numbers a ≡ counts_call s) where
-  pub counts-not : {f : Refusal} → a ≡ CountsAnswer.Refused f → read s ≡ refused f
+module _ (s : List ℕ) where
+  pub counts-not : {f : Refusal} → counts_numbers (Err f) ≡ counts_call s → read s ≡ refused f
   unfolding counts_call
-  counts-not v = told-refused counts_of (read s) (sym (ap counts_numbers v) ∙ e)
+  counts-not e = told-refused counts_of (read s) e
 
-  pub counts-low : {c : Counts} → a ≡ CountsAnswer.Counted c → (c.steps ≤ max_steps) × (c.edges ≤ max_edges)
+  pub counts-low : {c : Counts} → counts_numbers (Ok c) ≡ counts_call s → (c.steps ≤ max_steps) × (c.edges ≤ max_edges)
   unfolding counts_call
-  counts-low {c} v = go (told-done counts_of (read s) (sym (ap counts_numbers v) ∙ e))
+  counts-low {c} e = go (told-done counts_of (read s) e)
     where
       go : Values counts_of (read s) (c.steps ∷ c.edges ∷ []) → (c.steps ≤ max_steps) × (c.edges ≤ max_edges)
       go h =

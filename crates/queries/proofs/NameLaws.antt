@@ -1,5 +1,5 @@
 -- The name calls: what they tell of a table that was read, from their numbers back to the outcome, and the bounds of a name.
-use mathlib.Core.Path.{◌≡◌, refl, sym, ap, subst, ◌∙◌}
+use mathlib.Core.Path.{◌≡◌, refl, ap, subst}
 use mathlib.Core.Bool.{Bool, true, false}
 use mathlib.Core.List.{List, [], ◌∷◌}
 use mathlib.Core.Logic.{◌⊎◌, inl, inr, ⊎_elim}
@@ -7,67 +7,58 @@ use Prim.Native.Nat.{ℕ, ◌+◌, ◌-◌, ◌≤◌, ◌<◌}
 use native.Mathlib.Omega.{arith}
 use borrow.Author.Tests.{lt-ltb, le-ltb, ltb-true}
 use lib.Dec.{ltb}
-use lib.ListN.{length, get_or, take, drop, get_or-append}
+use lib.ListN.{length, get_or, take, drop}
 use Rattle.outcome.specs.declared.Refusal.{Refusal}
 use Rattle.outcome.specs.declared.Refusal.TheVariants.{NoStep}
-use Rattle.table.specs.declared.types.TableRead.{TableRead}
-use Rattle.queries.specs.declared.types.NameAnswer.{NameAnswer}
-use Rattle.buffers.specs.Padded.{padded}
+use Rattle.std.proofs.lemmas.List.{get_or_default}
+use Rattle.std.specs.Prelude.{Ok, Err, slice_index_or}
+use Rattle.table.specs.declared.types.Step.{Step}
+use Rattle.table.specs.declared.types.Table.{Table}
+use Rattle.queries.specs.declared.types.Name.{Name}
 use Rattle.outcome.specs.Refusal.{Outcome, done, refused, then_do, demand, number_of, step_of}
 use Rattle.table.specs.declared.rule.Rule.TheVariants.{Shortest}
-use Rattle.table.specs.Limits.{max_steps, max_name, max_table}
+use Rattle.table.specs.Limits.{max_name, max_table}
 use Rattle.table.specs.Table.{Contents, read}
-use Rattle.table.specs.Calls.{no_step}
+use Rattle.table.specs.Calls.{no_step, read_end, read_call}
 use Rattle.queries.specs.Calls.{Stretch, name_of, name_found, stretch_numbers, name_call, name_numbers, stretch_of}
 use Rattle.outcome.proofs.ToldLaws.{alone, told-refused, Values, told-done}
-use Rattle.table.proofs.AnswerLaws.{Told}
+use Rattle.table.proofs.AnswerLaws.{read-refused, read-accepted}
 use Rattle.table.proofs.FairLaws.{read-fair, read_short}
 use Rattle.table.proofs.RangeLaws.{OfReader, read-range, reader-alone}
 
 -- ---- from a table that was read
 
-module _ (t : TableRead) (s : List ℕ) (h : Told t (read s)) where
-  counts : t.table.n ≡ length h.contents.steps
-  counts = ap (λ (x : TableRead). x.table.n) h.whole
-
-  pub few : t.table.n ≤ max_steps
-  few = omega (arith, counts, (read-fair s h.outcome).few_steps)
-
-  pub missing : (i : ℕ) → t.table.n ≤ i → name_numbers (NameAnswer.Refused NoStep) ≡ name_call s i
+module _ (s : List ℕ) where
+  pub missing : (t : Table) → read_end (Ok t) ≡ read_call s → (i : ℕ) → length t.steps.items ≤ i → name_numbers (Err NoStep) ≡ name_call s i
   unfolding name_call name_found
-  missing i l = simp (h.outcome, le-ltb i (length h.contents.steps) (omega (arith, counts)))
+  missing t e i l = simp (read-accepted s e, le-ltb i (length t.steps.items) l)
 
-  pub found : (i : ℕ) → i < t.table.n
-      → name_numbers (NameAnswer.At (get_or t.table.steps i no_step).start (get_or t.table.steps i no_step).len) ≡ name_call s i
-  unfolding name_call name_found padded
-  found i l =
-      simp (h.outcome, lt-ltb i (length h.contents.steps) (omega (arith, counts)))
-      (ap (λ x. 0 ∷ x.start ∷ x.len ∷ []) (ap (λ (x : TableRead). get_or x.table.steps i no_step) h.whole ∙ inside))
-    where
-      inside : get_or (padded max_steps no_step h.contents.steps) i no_step ≡ get_or h.contents.steps i no_step
-      inside = get_or-append h.contents.steps _ no_step i (omega (arith, counts))
+  pub found : (t : Table) → read_end (Ok t) ≡ read_call s → (i : ℕ) → i < length t.steps.items → (none : Step)
+      → name_numbers (Ok (record { start = (slice_index_or t.steps.items i none).start; len = (slice_index_or t.steps.items i none).len })) ≡ name_call s i
+  unfolding name_call name_found
+  found t e i l none = simp (read-accepted s e, lt-ltb i (length t.steps.items) l, get_or_default t.steps.items i none no_step l)
 
-pub name-refused : (s : List ℕ) {f : Refusal} → read s ≡ refused f → (i : ℕ) → name_numbers (NameAnswer.Refused f) ≡ name_call s i
-unfolding name_call name_found
-name-refused s e i = rw e
+  pub name_refused : (f : Refusal) → read_end (Err f) ≡ read_call s → (i : ℕ) → name_numbers (Err f) ≡ name_call s i
+  unfolding name_call name_found
+  name_refused f e i = rw (read-refused s e)
 
 -- ---- from the answer back to the outcome
 
-module _ (s : List ℕ) (i : ℕ) {a : NameAnswer} (e : name_numbers a ≡ name_call s i) where
-  pub answer-found : {start len : ℕ} → a ≡ NameAnswer.At start len → name_found s i ≡ done (record { start = start; len = len })
+module _ (s : List ℕ) (i : ℕ) where
+  pub answer-found : {n : Name} → name_numbers (Ok n) ≡ name_call s i → name_found s i ≡ done (record { start = n.start; len = n.len })
   unfolding name_call
-  answer-found {start} {len} v = go (told-done stretch_numbers (name_found s i) (sym (ap name_numbers v) ∙ e))
+  answer-found {n} e = go (told-done stretch_numbers (name_found s i) e)
     where
-      go : Values stretch_numbers (name_found s i) (start ∷ len ∷ []) → name_found s i ≡ done (record { start = start; len = len })
+      go : Values stretch_numbers (name_found s i) (n.start ∷ n.len ∷ []) → name_found s i ≡ done (record { start = n.start; len = n.len })
       go h =
           let w = h.says in
-          let b : start ≡ h.value.start = cc in
-          let c : len ≡ h.value.len = cc in
+          let b : n.start ≡ h.value.start = cc in
+          let c : n.len ≡ h.value.len = cc in
           rw (b, c) h.outcome
 
-  pub answer-refused : {f : Refusal} → a ≡ NameAnswer.Refused f → name_found s i ≡ refused f
+  pub answer-refused : {f : Refusal} → name_numbers (Err f) ≡ name_call s i → name_found s i ≡ refused f
   unfolding name_call
-  answer-refused v = told-refused stretch_numbers (name_found s i) (sym (ap name_numbers v) ∙ e)
+  answer-refused e = told-refused stretch_numbers (name_found s i) e
 
 -- ---- a name that is found
 

@@ -1,11 +1,12 @@
 -- The calls: what each answers.
-use Rattle.std.specs.Prelude.{◌≡◌, List, [], ◌∷◌, ℕ, ◌+◌, ltb, length, get_or, take, drop}
+use Rattle.std.specs.Prelude.{◌≡◌, List, [], ◌∷◌, ℕ, ◌+◌, ltb, length, get_or, take, drop, Result}
 use Rattle.std.specs.Borrow.{Bor}
 use Rattle.table.specs.declared.types.Step.{Step}
-use Rattle.queries.specs.declared.types.CountsAnswer.{CountsAnswer}
-use Rattle.queries.specs.declared.types.NameAnswer.{NameAnswer}
+use Rattle.queries.specs.declared.types.Counts.{Counts}
+use Rattle.queries.specs.declared.types.Name.{Name}
+use Rattle.outcome.specs.declared.Refusal.{Refusal}
 use Rattle.outcome.specs.declared.Refusal.TheVariants.{NoStep}
-use Rattle.outcome.specs.Refusal.{Outcome, done, refused, then_do, demand, numbers_of, told}
+use Rattle.outcome.specs.Refusal.{Outcome, done, refused, then_do, demand, told, answered}
 use Rattle.table.specs.Table.{Contents, read}
 use Rattle.table.specs.Calls.{no_step}
 
@@ -19,9 +20,9 @@ counts_of t = length t.steps ∷ length t.edges ∷ []
 unfoldable pub counts_call : List ℕ → List ℕ
 counts_call bytes = told counts_of (read bytes)
 
-abbrev pub counts_numbers : CountsAnswer → List ℕ
-counts_numbers (CountsAnswer.Counted c) = 0 ∷ c.steps ∷ c.edges ∷ []
-counts_numbers (CountsAnswer.Refused r) = numbers_of r
+-- what the code answers, in numbers
+abbrev pub counts_numbers : Result Counts Refusal → List ℕ
+counts_numbers r = answered (λ (c : Counts). c.steps ∷ c.edges ∷ []) r
 
 -- ---- the name of a step
 
@@ -45,9 +46,9 @@ stretch_numbers s = s.start ∷ s.len ∷ []
 unfoldable pub name_call : List ℕ → ℕ → List ℕ
 name_call bytes i = told stretch_numbers (name_found bytes i)
 
-abbrev pub name_numbers : NameAnswer → List ℕ
-name_numbers (NameAnswer.At start len) = 0 ∷ start ∷ len ∷ []
-name_numbers (NameAnswer.Refused r) = numbers_of r
+-- what the code answers, in numbers
+abbrev pub name_numbers : Result Name Refusal → List ℕ
+name_numbers r = answered (λ (n : Name). n.start ∷ n.len ∷ []) r
 
 -- to a caller in the language a refusal is the empty stretch at the table's start: no name is empty
 abbrev pub stretch_of : Outcome Stretch → Stretch

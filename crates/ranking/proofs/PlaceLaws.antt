@@ -1,13 +1,13 @@
 -- Fair edges in flat slices: the loop finder and the solver take them, and what these answer is the outcome.
-use mathlib.Core.Path.{◌≡◌, sym, ap, subst, ◌∙◌}
-use mathlib.Core.List.{List, [], ◌++◌}
+use mathlib.Core.Path.{◌≡◌, refl, sym, ap, subst}
+use mathlib.Core.List.{List, []}
 use Prim.Native.Nat.{ℕ, ◌≤◌, ◌<◌}
 use native.Mathlib.Decide.{dec_lt}
 use native.Mathlib.Omega.{arith}
-use lib.ListN.{length, take, drop, replicate, length-replicate, get_or-eq_default}
-use lib.Seq.{length-take-le}
+use lib.ListN.{length, get_or-eq_default}
+use Rattle.std.specs.Prelude.{Option, Some, None, Err}
 use Rattle.graph.specs.declared.Edge.{Edge}
-use Rattle.graph.specs.Rows.{at, total, Best, Within}
+use Rattle.graph.specs.Rows.{at, Best, Within}
 use Rattle.graph.proofs.BoundLaws.{best-is-rows_of}
 use Rattle.relaxation.specs.Limits.{gap_limit, weight_limit, row_limit}
 use Rattle.buffers.specs.Lists.{sum}
@@ -15,61 +15,17 @@ use Rattle.buffers.proofs.SumLaws.{sum_low}
 use Rattle.relaxation.specs.Network.{edges_of, Network, Bounded}
 use Rattle.relaxation.proofs.EdgesLaws.{length-edges_of, edge_at}
 use Rattle.outcome.specs.declared.Refusal.TheVariants.{Loop}
-use Rattle.outcome.specs.declared.Verdict.TheVariants.{Accepted}
 use Rattle.table.specs.Limits.{max_steps, max_edges, max_gap, max_weight}
-use Rattle.outcome.specs.Refusal.{done, refused}
-use Rattle.buffers.specs.Padded.{padded}
-use Rattle.buffers.proofs.PaddedLaws.{padded-long, padded-front, padded-paste}
-use Rattle.buffers.specs.Written.{Stored}
-use Rattle.buffers.proofs.WriteLaws.{written_is}
+use Rattle.outcome.specs.Refusal.{done}
 use Rattle.table.specs.Fair.{FairEdge}
-use Rattle.rows.specs.declared.types.RowsFound.{RowsFound}
-use Rattle.acyclic.specs.declared.settle.Found.{Found}
-use Rattle.acyclic.specs.declared.settle.Found.TheVariants.{At, Nothing}
 use Rattle.acyclic.specs.Ends.{NodeEnds, Gaps}
 use Rattle.acyclic.specs.Loops.{FoundIs, LowRows}
 use Rattle.rows.specs.Answers.{rows_found}
-use Rattle.flatten.specs.declared.Flat.{Flat}
-use Rattle.flatten.specs.Flat.{front_edges, Even, Flattened}
-use Rattle.rows.specs.Placed.{top_row, FairEdges, SolvedRows, EdgesPlaced}
-use Rattle.rows.proofs.PlacedLaws.{best-low}
+use Rattle.flatten.specs.Even.{Even}
+use Rattle.rows.specs.Limits.{top_row}
+use Rattle.rows.specs.Placed.{FairEdges, EdgesPlaced}
 use Rattle.acyclic.proofs.BoundLaws.{low-rows-at}
 use Rattle.acyclic.proofs.FoundLaws.{found-weighted, found-computes}
-
--- ---- arrays that hold edges
-
-module _ {m : ℕ} {edges : List Edge} (f : Flat) (h : Flattened m edges f.from f.to f.gap f.weight) where
-  pub flattened-fair : (n : ℕ) → FairEdges n (take m edges) → FairEdges n (front_edges m f)
-  flattened-fair n = subst (FairEdges n) (sym h.same)
-
-  pub flattened-placed : (n : ℕ) (r : RowsFound) → EdgesPlaced n (front_edges m f) r → EdgesPlaced n (take m edges) r
-  flattened-placed n r = subst (λ l. EdgesPlaced n l r) h.same
-
--- ---- rows in an array
-
-abbrev zeros : List ℕ
-zeros = replicate max_steps 0
-
--- best rows in an array whose others are 0
-pub solved-rows : {n : ℕ} {edges : List Edge} (y : List ℕ) {rows : List ℕ} → Best n edges (take n y) → rows ≡ padded max_steps 0 (take n y)
-    → n ≤ max_steps → SolvedRows n edges rows
-solved-rows {n} {edges} y {rows} best e few =
-    record {
-      best = subst (Best n edges) (sym front) best;
-      blank = e ∙ ap (padded max_steps 0) (sym front);
-      long = ap length e ∙ padded-long max_steps 0 (take n y) (omega (arith, best.one_a_node));
-    }
-  where
-    front : take n rows ≡ take n y
-    front = ap (take n) e ∙ ap (λ k. take k (padded max_steps 0 (take n y))) (sym best.one_a_node) ∙ padded-front max_steps 0 (take n y)
-
--- rows copied over an array of zeros
-pub padded-rows : (n : ℕ) (y rows : List ℕ) {r : ℕ} → n ≤ max_steps → length y ≡ max_steps → Stored zeros 0 (take n y) rows r
-    → rows ≡ padded max_steps 0 (take n y)
-padded-rows n y rows few long s =
-    let count : length (take n y) ≡ n = length-take-le n y (omega arith) in
-    s.holds ∙ written_is zeros (take n y) (omega (arith, count, length-replicate {A = ℕ} max_steps 0))
-    ∙ ap (λ k. take n y ++ drop k zeros) count ∙ padded-paste max_steps n y (omega arith)
 
 -- ---- flat slices of fair edges
 
@@ -115,16 +71,16 @@ module _ (from to gap weight : List ℕ) (n : ℕ) (fair : FairEdges n (edges_of
         narrow = record { few = omega (arith, fair.few_steps); gaps = gap-narrow };
       }
 
-  module _ (r : Found) (found : FoundIs n (edges_of from to gap []) r) where
+  module _ (r : Option ℕ) (found : FoundIs n (edges_of from to gap []) r) where
     weighted : FoundIs n edges r
     weighted = found-weighted n from to gap weight r fair-ends found
 
-    pub placed-loop : {s : ℕ} → r ≡ At s → rows_found n edges ≡ refused (Loop s)
+    pub placed-loop : {s : ℕ} → r ≡ Some s → EdgesPlaced n edges (Err (Loop s))
     unfolding rows_found
-    placed-loop {s} e = rw (found-computes n edges fair-within (At s) (subst (FoundIs n edges) e weighted))
+    placed-loop {s} e = record { says = rw (found-computes n edges fair-within (Some s) (subst (FoundIs n edges) e weighted)) refl; placed = tt }
 
-    module _ (e : r ≡ Nothing) where
-      free : FoundIs n edges Nothing
+    module _ (e : r ≡ None) where
+      free : FoundIs n edges None
       free = subst (FoundIs n edges) e weighted
 
       low : LowRows n edges top_row
@@ -138,18 +94,6 @@ module _ (from to gap weight : List ℕ) (n : ℕ) (fair : FairEdges n (edges_of
             low = λ v h. omega (arith, low.low v h);
           }
 
-      pub placed-free : (rows : List ℕ) → Best n edges (take n rows) → rows_found n edges ≡ done (take n rows)
+      pub placed-free : (rows : List ℕ) → Best n edges rows → done rows ≡ rows_found n edges
       unfolding rows_found
-      placed-free rows best =
-          rw (found-computes n edges fair-within Nothing free) (ap done (best-is-rows_of n edges (take n rows) fair-within best))
-
-      pub placed-done : (rows : List ℕ) (sum : ℕ) → SolvedRows n edges rows → sum ≡ total edges (at (take n rows))
-          → EdgesPlaced n edges (record { verdict = Accepted; rows = rows; total = sum })
-      placed-done rows sum s e =
-          record {
-            says = sym (placed-free rows s.best);
-            blank = rw (placed-free rows s.best) s.blank;
-            summed = rw (placed-free rows s.best) e;
-            best = λ _. s.best;
-            low = record { few = λ _. fair.few_steps; long = s.long; low = λ _. best-low n edges rows fair s.best };
-          }
+      placed-free rows best = rw (found-computes n edges fair-within None free) (ap done (sym (best-is-rows_of n edges rows fair-within best)))

@@ -16,33 +16,27 @@ use Rattle.fewest.specs.Fewest.{Drawing, drawing_of}
 use Rattle.fewest.proofs.CompleteLaws.{drawing-rows, drawing-once, drawing-none, drawing-count}
 use Rattle.rooms.specs.Rooms.{segment_room}
 use Rattle.drawing.proofs.DrawLaws.{stored-part, stored-within, stored-count}
-use Rattle.ordering.specs.declared.chart.EdgeEnds.{EdgeEnds}
-use Rattle.ordering.specs.Charting.{Split}
 use Rattle.ordering.proofs.ChartLaws.{drawing-of-ends}
-use Rattle.ordering.proofs.SplitLaws.{part-from}
 use Rattle.reordering.specs.Stacked.{Stacked, Stack}
-use Rattle.rearranging.specs.declared.OrderAnswer.{OrderAnswer}
+use Rattle.std.specs.Prelude.{Result}
+use Rattle.outcome.specs.declared.Refusal.{Refusal}
+use Rattle.table.specs.Limits.{max_edges}
+use Rattle.rearranging.specs.declared.RowFigures.{RowFigures}
 use Rattle.rearranging.specs.Calls.{unless_wide, order_end}
-use Rattle.rearranging.specs.Arranging.{Arrangeable, RowEnded, LaidEnded}
+use Rattle.rearranging.specs.Arranging.{EndsOf, Arrangeable, RowEnded, LaidEnded}
 
-module _ {ys : List ℕ} {ends : EdgeEnds} {order : List ℕ} {r : ℕ} (h : Arrangeable ys ends order r) where
-  abbrev from : List ℕ
-  from = take ends.count ends.from
-
-  abbrev to : List ℕ
-  to = take ends.count ends.to
-
+module _ {ys from to order : List ℕ} {r : ℕ} (h : Arrangeable ys from to order r) where
   -- ---- edges with these ends
 
-  module _ (drawn : List Edge) (split : Split drawn ends.count ends.from ends.to ends.weight) where
+  module _ (drawn : List Edge) (ends : EndsOf drawn from to) where
     points-same : point_rows ys (edges_between from to) ≡ point_rows ys drawn
-    points-same = rw (split.tails, split.heads) (any-points ys drawn)
+    points-same = rw (ends.tails, ends.heads) (any-points ys drawn)
 
     segments-same : segments ys (edges_between from to) ≡ segments ys drawn
-    segments-same = rw (split.tails, split.heads) (any-segments ys drawn)
+    segments-same = rw (ends.tails, ends.heads) (any-segments ys drawn)
 
     drawing-same : drawing_of ys (edges_between from to) ≡ drawing_of ys drawn
-    drawing-same = rw (split.tails, split.heads) (drawing-of-ends ys drawn)
+    drawing-same = rw (ends.tails, ends.heads) (drawing-of-ends ys drawn)
 
     drawn-few : length (segments ys drawn) ≤ segment_room max_points
     unfolding segments
@@ -53,23 +47,30 @@ module _ {ys : List ℕ} {ends : EdgeEnds} {order : List ℕ} {r : ℕ} (h : Arr
           points-length ys drawn,
           ap length (sym points-same ∙ points-of-own),
           h.few,
-          ap length split.tails,
-          length-map drawn (λ (e : Edge). e.from),
-          part-from split,
-          split.few,
+          few-ends,
         )
       where
+        few-ends : length drawn ≤ max_edges
+        few-ends =
+            omega (
+              arith,
+              ap length (sym ends.tails ∙ h.ends.tails),
+              length-map drawn (λ (e : Edge). e.from),
+              length-map h.drawn (λ (e : Edge). e.from),
+              h.few_edges,
+            )
+
         points-of-own : point_rows ys (edges_between from to) ≡ point_rows ys h.drawn
-        points-of-own = rw (h.split.tails, h.split.heads) (any-points ys h.drawn)
+        points-of-own = rw (h.ends.tails, h.ends.heads) (any-points ys h.drawn)
 
   -- the chart that they make
-  module _ (drawn : List Edge) (split : Split drawn ends.count ends.from ends.to ends.weight) where
+  module _ (drawn : List Edge) (ends : EndsOf drawn from to) where
     order-of : order ≡ flatten (drawing_of ys drawn).order
-    order-of = h.order_is ∙ ap (λ (d : Drawing). flatten d.order) (sym (drawing-same h.drawn h.split) ∙ drawing-same drawn split)
+    order-of = h.order_is ∙ ap (λ (d : Drawing). flatten d.order) (sym (drawing-same h.drawn h.ends) ∙ drawing-same drawn ends)
 
     down : (j : ℕ) → j < length (segments ys drawn)
         → at (point_rows ys drawn) (at (lowers (segments ys drawn)) j) ≡ suc (at (point_rows ys drawn) (at (uppers (segments ys drawn)) j))
-    down = rw (← points-same drawn split, ← segments-same drawn split) (neighbours ys (edges_between from to) (chart-leads h.chart))
+    down = rw (← points-same drawn ends, ← segments-same drawn ends) (neighbours ys (edges_between from to) (chart-leads h.chart))
 
     pub chart-stacked : Stacked (drawing_of ys drawn).order (segments ys drawn) (point_rows ys drawn) (uppers (segments ys drawn)) (lowers (segments ys drawn)) order r
     chart-stacked =
@@ -80,11 +81,11 @@ module _ {ys : List ℕ} {ends : EdgeEnds} {order : List ℕ} {r : ℕ} (h : Arr
           none = λ q t l. drawing-none ys drawn q t l;
           uppers_are = refl;
           lowers_are = refl;
-          upper_in = rw (← points-same drawn split, ← segments-same drawn split) (uppers-in ys (edges_between from to) (chart-leads h.chart));
-          lower_in = rw (← points-same drawn split, ← segments-same drawn split) (lowers-in ys (edges_between from to) (chart-leads h.chart));
+          upper_in = rw (← points-same drawn ends, ← segments-same drawn ends) (uppers-in ys (edges_between from to) (chart-leads h.chart));
+          lower_in = rw (← points-same drawn ends, ← segments-same drawn ends) (lowers-in ys (edges_between from to) (chart-leads h.chart));
           down = λ j l. down j (omega (arith, length-map (segments ys drawn) (λ (g : Segment). g.upper))) ∙ omega arith;
-          few_points = omega (arith, ap length (sym (points-same h.drawn h.split) ∙ points-same drawn split), h.few);
-          few_segments = omega (arith, drawn-few drawn split, length-map (segments ys drawn) (λ (g : Segment). g.upper));
+          few_points = omega (arith, ap length (sym (points-same h.drawn h.ends) ∙ points-same drawn ends), h.few);
+          few_segments = omega (arith, drawn-few drawn ends, length-map (segments ys drawn) (λ (g : Segment). g.upper));
           above = h.above;
           tall = omega (arith, drawing-rows ys drawn, h.tall);
         }
@@ -96,11 +97,11 @@ module _ {ys : List ℕ} {ends : EdgeEnds} {order : List ℕ} {r : ℕ} (h : Arr
   segment_zeros = replicate (segment_room max_points) 0
 
   pub rows_room : length (point_rows ys (edges_between from to)) ≤ length row_zeros
-  rows_room = omega (arith, ap length (points-same h.drawn h.split), h.few, length-replicate {A = ℕ} max_points 0)
+  rows_room = omega (arith, ap length (points-same h.drawn h.ends), h.few, length-replicate {A = ℕ} max_points 0)
 
   pub segments-room : length (segments ys (edges_between from to)) ≤ length segment_zeros
   segments-room =
-      omega (arith, ap length (segments-same h.drawn h.split), drawn-few h.drawn h.split, length-replicate {A = ℕ} (segment_room max_points) 0)
+      omega (arith, ap length (segments-same h.drawn h.ends), drawn-few h.drawn h.ends, length-replicate {A = ℕ} (segment_room max_points) 0)
 
   uppers-room : length (uppers (segments ys (edges_between from to))) ≤ length segment_zeros
   uppers-room = omega (arith, segments-room, length-map (segments ys (edges_between from to)) (λ (s : Segment). s.upper))
@@ -130,31 +131,31 @@ module _ {ys : List ℕ} {ends : EdgeEnds} {order : List ℕ} {r : ℕ} (h : Arr
     pub lower-count : s ≡ length (take s lower)
     lower-count = stored-count sl lowers-room
 
-    module _ (drawn : List Edge) (split : Split drawn ends.count ends.from ends.to ends.weight) where
+    module _ (drawn : List Edge) (ends : EndsOf drawn from to) where
       row-part : take p row ≡ point_rows ys drawn
-      row-part = stored-part sr rows_room ∙ points-same drawn split
+      row-part = stored-part sr rows_room ∙ points-same drawn ends
 
       upper-part : take s upper ≡ uppers (segments ys drawn)
-      upper-part = stored-part su uppers-room ∙ ap uppers (segments-same drawn split)
+      upper-part = stored-part su uppers-room ∙ ap uppers (segments-same drawn ends)
 
       lower-part : take s lower ≡ lowers (segments ys drawn)
-      lower-part = stored-part sl lowers-room ∙ ap lowers (segments-same drawn split)
+      lower-part = stored-part sl lowers-room ∙ ap lowers (segments-same drawn ends)
 
       stacked : Stacked (drawing_of ys drawn).order (segments ys drawn) (take p row) (take s upper) (take s lower) order r
-      stacked = rw (row-part, upper-part, lower-part) (chart-stacked drawn split)
+      stacked = rw (row-part, upper-part, lower-part) (chart-stacked drawn ends)
 
     pub stack : Stack (take p row) (take s upper) (take s lower) order r
-    stack = record { o = (drawing_of ys h.drawn).order; segs = segments ys h.drawn; stacked = stacked h.drawn h.split }
+    stack = record { o = (drawing_of ys h.drawn).order; segs = segments ys h.drawn; stacked = stacked h.drawn h.ends }
 
     -- the answer of the flat lists is that of the chart
-    pub row-ended : {tries : ℕ} {old new : List ℕ} {a : OrderAnswer} → LaidEnded (take p row) (take s upper) (take s lower) order r tries old new a
-        → RowEnded ys ends r tries old new a
+    pub row-ended : {tries : ℕ} {old new : List ℕ} {a : Result RowFigures Refusal} → LaidEnded (take p row) (take s upper) (take s lower) order r tries old new a
+        → RowEnded ys from to r tries old new a
     row-ended {tries} {old} {new} {a} l =
         record {
-          numbers = λ drawn split.
-              l.numbers (drawing_of ys drawn).order (segments ys drawn) (stacked drawn split)
-              ∙ ap (λ (rows : List ℕ). (order_end (unless_wide rows (segments ys drawn) (drawing_of ys drawn).order r tries) old).numbers) (row-part drawn split);
-          order_is = λ drawn split.
-              l.order_is (drawing_of ys drawn).order (segments ys drawn) (stacked drawn split)
-              ∙ ap (λ (rows : List ℕ). (order_end (unless_wide rows (segments ys drawn) (drawing_of ys drawn).order r tries) old).order) (row-part drawn split);
+          numbers = λ drawn ends.
+              l.numbers (drawing_of ys drawn).order (segments ys drawn) (stacked drawn ends)
+              ∙ ap (λ (rows : List ℕ). (order_end (unless_wide rows (segments ys drawn) (drawing_of ys drawn).order r tries) old).numbers) (row-part drawn ends);
+          order_is = λ drawn ends.
+              l.order_is (drawing_of ys drawn).order (segments ys drawn) (stacked drawn ends)
+              ∙ ap (λ (rows : List ℕ). (order_end (unless_wide rows (segments ys drawn) (drawing_of ys drawn).order r tries) old).order) (row-part drawn ends);
         }

@@ -1,8 +1,9 @@
 -- The best order of one row of a table's chart: what the call answers, and what its buffer holds at its end.
-use Rattle.std.specs.Prelude.{◌≡◌, ◌&&◌, cond, List, [], ◌∷◌, ℕ, suc, ◌≤◌, ltb, leb, length, get_or, take}
+use Rattle.std.specs.Prelude.{◌≡◌, ◌&&◌, cond, List, [], ◌∷◌, ℕ, suc, ◌≤◌, ltb, leb, length, get_or, take, Result}
 use Rattle.graph.specs.declared.Edge.{Edge}
+use Rattle.outcome.specs.declared.Refusal.{Refusal}
 use Rattle.outcome.specs.declared.Refusal.TheVariants.{ShortBuffer, BadRow, ManyTries}
-use Rattle.outcome.specs.Refusal.{Outcome, done, refused, then_do, demand, numbers_of, refusal_in}
+use Rattle.outcome.specs.Refusal.{Outcome, done, refused, then_do, demand, numbers_of, answered, refusal_in}
 use Rattle.points.specs.Points.{Segment, point_rows, segments, row_count}
 use Rattle.fewest.specs.Fewest.{drawing_of}
 use Rattle.ordering.specs.Calls.{drawn_in, Placing, chart_of_table, filled}
@@ -10,8 +11,6 @@ use Rattle.permutations.specs.Orders.{factorial, Permutation}
 use Rattle.exchange.specs.Limits.{max_row_points, max_tries}
 use Rattle.reordering.specs.RowOrder.{present_row, row_crossings, best_row, row_floor}
 use Rattle.rearranging.specs.declared.RowFigures.{RowFigures}
-use Rattle.rearranging.specs.declared.OrderAnswer.{OrderAnswer}
-use Rattle.rearranging.specs.declared.OrderAnswer.TheVariants.{Ordered, Refused}
 
 -- ---- the best order of a row
 
@@ -70,9 +69,8 @@ unfoldable pub order_call : List ℕ → ℕ → ℕ → List ℕ → OrderEnd
 order_call bytes r tries old = order_end (order_of_table bytes r tries) old
 
 -- what the code answers, in numbers
-abbrev pub order_numbers : OrderAnswer → List ℕ
-order_numbers (Ordered f) = 0 ∷ row_numbers f
-order_numbers (Refused r) = numbers_of r
+abbrev pub order_numbers : Result RowFigures Refusal → List ℕ
+order_numbers r = answered row_numbers r
 
 -- ---- what is shown of an answer
 

@@ -1,86 +1,83 @@
 // The best order of a row of a chart, from the rows, the lines and the order of the chart.
-ghost use Rattle.std.specs.Prelude.{◌≡◌, ◌++◌, map, ◌≤◌, length, take, drop};
+ghost use Rattle.std.specs.Prelude.{◌≡◌, ◌++◌, map, ◌<◌, ◌≤◌, length, drop};
 ghost use Rattle.graph.specs.Rows.{at};
 ghost use Rattle.buffers.specs.Lists.{Below};
 ghost use Rattle.reordering.specs.Stacked.{Stack};
 ghost use Rattle.rearranging.specs.Arranging.{Arrangeable, RowEnded, LaidEnded};
 
-use crate::{OrderAnswer, RowFigures};
+use crate::RowFigures;
 use exchange::limits::{MAX_ROW_POINTS, MAX_TRIES};
-use ordering::chart::EdgeEnds;
 use outcome::Refusal;
+use points::Layout;
 use points::limits::MAX_POINTS;
-use points::{lay_rows, lay_segments};
-use reordering::{gather_row, order_points};
+use reordering::{FlatChart, gather_row, order_points};
 use rooms::MAX_SEGMENTS;
 
 // Row r of lines between steps in their rows, put in its best order: the chart is laid in flat lists.
 pub fn arrange_row(
-    rows: &[usize],
-    ends: EdgeEnds,
+    layout: &Layout<'_>,
     order: &[u16],
     r: usize,
     tries: usize,
     out: &mut [u16],
-) -> OrderAnswer
-    requires { Arrangeable rows.now ends order.now r }
-    ensures { RowEnded rows.now ends r tries out.old out.new result }
+) -> Result<RowFigures, Refusal>
+    requires { Arrangeable layout.now.rows.now layout.now.from.now layout.now.to.now order.now r }
+    ensures { RowEnded layout.now.rows.now layout.now.from.now layout.now.to.now r tries out.old out.new result }
 {
-    let count = ends.count;
-    let from = ends.from;
-    let to = ends.to;
     let mut row = [0usize; MAX_POINTS];
     let mut upper = [0usize; MAX_SEGMENTS];
     let mut lower = [0usize; MAX_SEGMENTS];
-    let p = lay_rows(rows, &from[..count], &to[..count], &mut row);
-    let s = lay_segments(rows, &from[..count], &to[..count], &mut upper, &mut lower);
-    arrange_laid(&row[..p], &upper[..s], &lower[..s], order, r, tries, out)
+    let p = layout.lay_rows(&mut row);
+    let s = layout.lay_segments(&mut upper, &mut lower);
+    let chart = FlatChart {
+        row: &row[..p],
+        upper: &upper[..s],
+        lower: &lower[..s],
+        order,
+    };
+    arrange_laid(&chart, r, tries, out)
 }
 
 // The same of flat lists: a row of too many points is refused, then too many tries, then a short buffer.
+#[tactic(auto, using(crate::proofs::LaidLaws::points_low, crate::proofs::LaidLaws::ended_wide, crate::proofs::LaidLaws::ended_many, crate::proofs::LaidLaws::ended_short, crate::proofs::LaidLaws::found_fits, crate::proofs::LaidLaws::ended_ordered))]
 fn arrange_laid(
-    row: &[usize],
-    upper: &[usize],
-    lower: &[usize],
-    order: &[u16],
+    chart: &FlatChart<'_>,
     r: usize,
     tries: usize,
     out: &mut [u16],
-) -> OrderAnswer
-    requires { Stack row.now upper.now lower.now order.now r }
-    ensures { LaidEnded row.now upper.now lower.now order.now r tries out.old out.new result }
+) -> Result<RowFigures, Refusal>
+    requires { Stack chart.now.row.now chart.now.upper.now chart.now.lower.now chart.now.order.now r }
+    ensures { LaidEnded chart.now.row.now chart.now.upper.now chart.now.lower.now chart.now.order.now r tries out.old out.new result }
 {
-    let mut points = [0usize; MAX_POINTS];
-    let k = gather_row(order, row, r, &mut points);
-    if MAX_ROW_POINTS < k {
-        return OrderAnswer::Refused(Refusal::BadRow);
+    let gathered = gather_row(chart.order, chart.row, r);
+    let points = gathered.as_slice();
+    if MAX_ROW_POINTS < points.len() {
+        return Err(Refusal::BadRow);
     }
     if MAX_TRIES < tries {
-        return OrderAnswer::Refused(Refusal::ManyTries);
+        return Err(Refusal::ManyTries);
     }
-    if out.len() < k {
-        return OrderAnswer::Refused(Refusal::ShortBuffer);
+    if out.len() < points.len() {
+        return Err(Refusal::ShortBuffer);
     }
-    let found = order_points(row, upper, lower, order, &points[..k], r, tries);
-    let places = found.order;
-    name_points(&places, &points[..k], out);
-    OrderAnswer::Ordered(RowFigures {
-        points: k,
+    let found = order_points(chart, points, r, tries);
+    name_points(found.order.as_slice(), points, out);
+    Ok(RowFigures {
+        points: points.len(),
         crossings: found.crossings,
         floor: found.floor,
     })
 }
 
-// The points of a row by their places in it, as many as there are, to the front of a buffer.
+// The points of a row by their places in it, to the front of a buffer.
+#[tactic(auto, using(crate::proofs::NameLaws::named_more))]
 fn name_points(places: &[u8], points: &[usize], out: &mut [u16])
-    requires points_in_bounds { length points.now ≤ length places.now }
-    requires points_in_bounds_2 { length points.now ≤ length out.old }
-    requires below { Below (length points.now) (take (length points.now) places.now) }
-    requires below_2 { Below 0x10000 points.now }
-    ensures { out.new ≡ map (at points.now) (take (length points.now) places.now) ++ drop (length points.now) out.old }
+    requires fits { length places.now ≤ length out.old }
+    requires places { Below (length points.now) places.now }
+    requires points { Below 0x10000 points.now }
+    ensures { out.new ≡ map (at points.now) places.now ++ drop (length places.now) out.old }
 {
-    for i in 0..points.len() {
-        let p = places[i] as usize;
-        out[i] = points[p] as u16;
+    for (i, &place) in places.iter().enumerate() {
+        out[i] = points[place as usize] as u16;
     }
 }

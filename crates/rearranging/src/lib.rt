@@ -13,57 +13,44 @@ ghost use Rattle.rearranging.specs.Calls.{order_call, order_numbers, OrderShown}
 use crate::arrange::arrange_row;
 use ordering::chart::merge_ends;
 use ordering::chart_table;
-use outcome::{Refusal, Verdict};
+use ordering::types::TableChart;
+use outcome::Refusal;
+use points::Layout;
 
 // The numbers that go with the order of a row: of its points, its crossings with the row above, and a floor that no order of it goes below.
-#[derive(Drop)]
+#[derive(Clone, Copy, Debug, PartialEq, Eq)]
 pub struct RowFigures {
     pub points: usize,
     pub crossings: usize,
     pub floor: usize,
 }
 
-// The order is in the buffer, or why it is not.
-#[derive(Drop)]
-pub enum OrderAnswer {
-    Ordered(RowFigures),
-    Refused(Refusal),
-}
-
 // The points of a row of a table's chart in the best order that so many tries find, from left to right, to the first entries of a buffer.
 // Refuses as the whole chart does, then a row that no order is looked for, then too many tries, then a buffer with fewer entries than the
 // row has points.
-pub fn find_order(bytes: &[u8], row: usize, tries: usize, order: &mut [u16]) -> OrderAnswer
+pub fn find_order(
+    bytes: &[u8],
+    row: usize,
+    tries: usize,
+    order: &mut [u16],
+) -> Result<RowFigures, Refusal>
     ensures result_value { order_numbers result ≡ (order_call bytes.now row tries order.old).numbers }
     ensures order_after { order.new ≡ (order_call bytes.now row tries order.old).order }
     ensures order_shown { OrderShown bytes.now row tries (order_numbers result) order.new }
 {
-    let charted = chart_table(bytes);
-    let table = charted.table;
-    let found = charted.found;
-    let verdict = found.verdict;
-    match verdict {
-        Verdict::Refused(f) => OrderAnswer::Refused(f),
-        Verdict::Accepted => {
-            if row == 0 {
-                return OrderAnswer::Refused(Refusal::BadRow);
-            }
-            if found.height <= row {
-                return OrderAnswer::Refused(Refusal::BadRow);
-            }
-            let edges = table.edges;
-            let turned = charted.turned;
-            let ends = merge_ends(edges, turned, table.m);
-            let rows = found.rows;
-            let all = found.order;
-            arrange_row(
-                &rows[..table.n],
-                ends,
-                &all[..found.points],
-                row,
-                tries,
-                order,
-            )
-        }
+    let TableChart {
+        table,
+        turned,
+        chart,
+    } = chart_table(bytes)?;
+    if row == 0 || chart.height <= row {
+        return Err(Refusal::BadRow);
     }
+    let ends = merge_ends(&table.edges, &turned);
+    let layout = Layout {
+        rows: &chart.rows,
+        from: &ends.from,
+        to: &ends.to,
+    };
+    arrange_row(&layout, &chart.order, row, tries, order)
 }

@@ -1,2 +1,2 @@
 -- Laws by subject.
-mod InputLaws
+pub mod WordLaws

@@ -6,4 +6,3 @@ pub mod BestLaws
 pub mod BalanceLaws
 pub mod LowLaws
 pub mod ArcLaws
-pub mod ScratchLaws

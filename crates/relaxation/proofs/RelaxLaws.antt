@@ -4,7 +4,7 @@ use mathlib.Core.List.{List, [], ◌∷◌, ◌++◌}
 use Prim.Native.Nat.{ℕ, zero, suc, ◌+◌, ◌-◌, ◌≤◌, ◌<◌}
 use native.Mathlib.Nat.{not-suc-le-zero, le_of_suc-le-suc, le_trans}
 use native.Mathlib.Omega.{arith}
-use lib.ListN.{length, get_or, set, drop, take, replicate, get_or-replicate, length-set, length-replicate, get_or-append}
+use lib.ListN.{length, get_or, set, drop, take, replicate, get_or-replicate, length-set, length-replicate, get_or-append, length-append, length-drop}
 use lib.Seq.{drop-set-lt, drop_at, get_or-take, length-take-le}
 use Rattle.graph.specs.Rows.{at}
 use Rattle.relaxation.specs.Certificate.{Held, Height, ground, over, under, Relaxed}
@@ -18,9 +18,6 @@ unfolding headroom
 headroom-set top [] i v h gt le = absurd (not-suc-le-zero h)
 headroom-set top (x ∷ xs) zero v h gt le = omega arith
 headroom-set top (x ∷ xs) (suc i) v h gt le = omega (arith, headroom-set top xs i v (le_of_suc-le-suc h) gt le)
-
-pub shaped-up : {from to gap : List ℕ} {n k : ℕ} → n ≤ k → Shaped from to gap n → Shaped from to gap k
-shaped-up le s = record { to_long = s.to_long; gap_long = s.gap_long; from_in = λ a h. le_trans (s.from_in a h) le; to_in = λ a h. le_trans (s.to_in a h) le }
 
 -- No residual walk climbs above rows that are held: a step up is over a kept edge, a step down over a tight one.
 pub height-le : (from to gap flow : List ℕ) (z : ℕ → ℕ) → Held from to gap flow z → {v h : ℕ} → Height from to gap flow v h → h ≤ z v
@@ -43,24 +40,7 @@ heights-more from to gap flow more n y m hs = record { each = λ v h. height-mor
 pub heights-any : (from to gap flow : List ℕ) (n : ℕ) (y : List ℕ) → Heights from to gap [] n y → Heights from to gap flow n y
 heights-any from to gap flow n y hs = heights-more from to gap [] flow n y (λ a u. absurd (not-suc-le-zero u)) hs
 
--- The first n entries are all that counts.
-pub heights-copy : (from to gap flow : List ℕ) (n : ℕ) (y z : List ℕ) → n ≤ length y → Heights from to gap flow n y
-    → Heights from to gap flow n (take n y ++ drop n z)
-heights-copy from to gap flow n y z k hs = record { each = λ v h. subst (λ (x : ℕ). Height from to gap flow v x) (sym (same v h)) (hs.each v h) }
-  where
-    same : (v : ℕ) → v < n → at (take n y ++ drop n z) v ≡ at y v
-    same v h = get_or-append (take n y) (drop n z) 0 v (omega (arith, length-take-le n y k)) ∙ get_or-take n y v 0 h
-
-pub rest-copied : (n : ℕ) (y z : List ℕ) → n ≤ length y → drop n (take n y ++ drop n z) ≡ drop n z
-rest-copied n y z k = drop_at (take n y) (drop n z) n (length-take-le n y k)
-
 module _ (from to gap flow : List ℕ) (n : ℕ) where
-  pub heights-zero : (y : List ℕ) → Heights from to gap flow n (replicate n 0 ++ drop n y)
-  heights-zero y = record { each = λ v h. subst (λ (k : ℕ). Height from to gap flow v k) (sym (zero-at v h)) ground }
-    where
-      zero-at : (i : ℕ) → i < n → get_or (replicate n 0 ++ drop n y) i 0 ≡ 0
-      zero-at i h = get_or-append (replicate n 0) (drop n y) 0 i (omega (arith, length-replicate {A = ℕ} n 0)) ∙ get_or-replicate {A = ℕ} n i 0 0 h
-
   module _ (top : ℕ) (shape : Shaped from to gap n) (hold : Holder from to gap flow n top) (y : List ℕ) (fits : n ≤ length y)
       (hs : Heights from to gap flow n y) where
     pub below : (v : ℕ) → v < n → at y v ≤ hold.rows v
@@ -95,24 +75,46 @@ module _ (from to gap flow : List ℕ) (n : ℕ) where
       lift-less (down u s e) = rw e (headroom-set top y (at from a) _ (le_trans (shape.from_in a h) fits) (omega arith)
           (omega (arith, below (at to a) (shape.to_in a h), hold.held.tight a h u, hold.low (at from a) (shape.from_in a h))))
 
-pub rest-cleared : (n : ℕ) (y : List ℕ) → drop n (replicate n 0 ++ drop n y) ≡ drop n y
-rest-cleared n y = drop_at (replicate n 0) (drop n y) n (length-replicate {A = ℕ} n 0)
+-- Rows whose first n entries were replaced, by 0 or by rows that are heights already, are heights to relax on from.
+module _ (from to gap flow : List ℕ) (n : ℕ) (front old : List ℕ) (fits : n ≤ length old) where
+  long-front : length front ≡ length (take n old) → length front ≡ n
+  long-front e = e ∙ length-take-le n old fits
 
--- Rows that were cleared, and rows that were copied, are heights to relax on from.
-pub relaxed-cleared : (from to gap flow : List ℕ) (n : ℕ) (old mid y : List ℕ) → mid ≡ replicate n 0 ++ drop n old → length mid ≡ length old
-    → Relaxed from to gap flow n mid y → Relaxed from to gap flow n old y
-relaxed-cleared from to gap flow n old mid y e l r =
-    record { long = r.long ∙ l; held = r.held; heights = r.heights; rest = r.rest ∙ ap (drop n) e ∙ rest-cleared n old }
+  pub relaxed-front : (y : List ℕ) → length front ≡ length (take n old) → Relaxed from to gap flow n (front ++ drop n old) y
+      → Relaxed from to gap flow n old y
+  relaxed-front y e r =
+      record {
+        long = r.long ∙ length-append front (drop n old) ∙ omega (arith, long-front e, length-drop n old);
+        held = r.held;
+        heights = r.heights;
+        rest = r.rest ∙ drop_at front (drop n old) n (long-front e);
+      }
 
-pub relaxed-copied : (from to gap flow : List ℕ) (n : ℕ) (lowest old mid y : List ℕ) → n ≤ length lowest → mid ≡ take n lowest ++ drop n old
-    → length mid ≡ length old → Relaxed from to gap flow n mid y → Relaxed from to gap flow n old y
-relaxed-copied from to gap flow n lowest old mid y k e l r =
-    record { long = r.long ∙ l; held = r.held; heights = r.heights; rest = r.rest ∙ ap (drop n) e ∙ rest-copied n lowest old k }
+  same-front : (v : ℕ) → v < n → length front ≡ length (take n old) → at (front ++ drop n old) v ≡ at front v
+  same-front v h e = get_or-append front (drop n old) 0 v (omega (arith, long-front e))
 
-pub heights-cleared : (from to gap flow : List ℕ) (n : ℕ) (old mid : List ℕ) → mid ≡ replicate n 0 ++ drop n old → Heights from to gap flow n mid
-heights-cleared from to gap flow n old mid e = rw e (heights-zero from to gap flow n old)
+  pub heights-cleared : front ≡ replicate (length (take n old)) 0 → Heights from to gap flow n (front ++ drop n old)
+  heights-cleared e =
+      record {
+        each = λ v h. subst (λ (k : ℕ). Height from to gap flow v k) (sym (zero-at v h)) ground;
+      }
+    where
+      long : length front ≡ length (take n old)
+      long = ap length e ∙ length-replicate {A = ℕ} (length (take n old)) 0
 
-pub heights-copied : (from to gap flow : List ℕ) (n : ℕ) (lowest old mid : List ℕ) → n ≤ length lowest → mid ≡ take n lowest ++ drop n old
-    → Heights from to gap [] n lowest → Heights from to gap flow n mid
-heights-copied from to gap flow n lowest old mid k e hs =
-    rw e (heights-copy from to gap flow n lowest old k (heights-any from to gap flow n lowest hs))
+      zero-at : (v : ℕ) → v < n → at (front ++ drop n old) v ≡ 0
+      zero-at v h =
+          same-front v h long ∙ ap (λ (l : List ℕ). at l v) e ∙ get_or-replicate {A = ℕ} (length (take n old)) v 0 0 (omega (arith, length-take-le n old fits))
+
+  pub heights-copied : (lowest : List ℕ) → n ≤ length lowest → front ≡ take n lowest → Heights from to gap [] n lowest
+      → Heights from to gap flow n (front ++ drop n old)
+  heights-copied lowest k e hs =
+      record {
+        each = λ v h. subst (λ (x : ℕ). Height from to gap flow v x) (sym (same v h)) ((heights-any from to gap flow n lowest hs).each v h);
+      }
+    where
+      long : length front ≡ length (take n old)
+      long = omega (arith, ap length e, length-take-le n lowest k, length-take-le n old fits)
+
+      same : (v : ℕ) → v < n → at (front ++ drop n old) v ≡ at lowest v
+      same v h = same-front v h long ∙ ap (λ (l : List ℕ). at l v) e ∙ get_or-take n lowest v 0 h

@@ -1,5 +1,6 @@
 -- One edge relaxed, and a sweep over all of them.
 use mathlib.Core.Path.{◌≡◌, refl, sym, ap, ◌∙◌, subst}
+use mathlib.Core.Bool.{Bool, false}
 use mathlib.Core.List.{List}
 use Prim.Native.Nat.{ℕ, ◌+◌, ◌≤◌, ◌<◌, max}
 use native.Mathlib.Nat.{not-suc-le-zero}
@@ -7,16 +8,19 @@ use native.Mathlib.Decide.{ℕ_discrete}
 use native.Mathlib.Omega.{arith}
 use lib.ListN.{length, set, drop}
 use lib.Seq.{set-get_or}
+use lib.Dec.{ltb}
+use mir.Val.{bool_byte}
+use borrow.Author.Tests.{ltb-true, ltb-false}
 use Rattle.graph.specs.Rows.{at}
 use Rattle.relaxation.specs.Limits.{row_limit}
 use Rattle.relaxation.specs.Network.{Shaped}
 use Rattle.relaxation.specs.Relax.{Holder, Sums, TailIs, MovedIs, neither, tail-moved, head-moved, up, down, Eases, holds, lifts, Heights, headroom, Swept}
 use Rattle.buffers.proofs.ListLaws.{miss}
-use Rattle.relaxation.proofs.RelaxLaws.{shaped-up, sums, lift-heights, lift-long, lift-rest, lift-less}
+use Rattle.relaxation.proofs.RelaxLaws.{sums, lift-heights, lift-long, lift-rest, lift-less}
 
 -- Both ends of an edge are written. A head that is too low comes to the tail's row plus the gap; a tail below a used edge that is too long
 -- comes to the head's row less the gap; never both. An end that does not move is written as it was.
-module _ (from to gap flow y : List ℕ) (a low high r : ℕ)
+module _ (from to gap flow y : List ℕ) (a low high : ℕ) (r : Bool)
     (tail : TailIs (at y (at from a)) (at gap a) (at y (at to a)) (at flow a) low)
     (head : high ≡ max (at y (at to a)) (at y (at from a) + at gap a)) where
   same-both : low ≡ at y (at from a) → high ≡ at y (at to a) → set (set y (at from a) low) (at to a) high ≡ y
@@ -51,11 +55,7 @@ module _ (from to gap flow y : List ℕ) (a low high r : ℕ)
       (ap (λ (l : List ℕ). set l (at to a) high) (ap (set y (at from a)) still ∙ set-get_or y (at from a) 0)
       ∙ ap (set y (at to a)) (omega arith)))
 
-pub eases-one : {from to gap flow y : List ℕ} {a : ℕ} {y' : List ℕ} {r : ℕ} → Eases from to gap flow y a y' r → r ≤ 1
-eases-one (holds z e k t) = omega arith
-eases-one (lifts o l) = omega arith
-
--- the first a edges are swept
+-- the first a edges are swept, and an end was lifted at so many of them
 pub record Sweeping (from to gap flow : List ℕ) (n : ℕ) (old y : List ℕ) (lifted a : ℕ) : Type 0 where
   pub long : length y ≡ length old
   pub rest : drop n y ≡ drop n old
@@ -75,8 +75,7 @@ module _ (from to gap flow : List ℕ) (n : ℕ) (shape : Shaped from to gap n) 
         heights = hs;
         none = λ e i h. absurd (not-suc-le-zero h);
         less = omega arith;
-        some = λ p. absurd
-            (not-suc-le-zero p);
+        some = λ p. absurd (not-suc-le-zero p);
         few = omega arith;
       }
 
@@ -84,16 +83,13 @@ module _ (from to gap flow : List ℕ) (n : ℕ) (shape : Shaped from to gap n) 
     pub fits-now : n ≤ length y
     fits-now = omega (arith, s.long)
 
-    pub shape-now : Shaped from to gap (length y)
-    shape-now = shaped-up fits-now shape
-
     pub sums-now : Sums from gap y
     sums-now = sums from to gap flow n row_limit shape hold y fits-now s.heights (omega arith)
 
     -- A turn: an edge that is held changes nothing; one that is not has an end lifted, to the height of a walk, below the rows that are
     -- held, so there is less room to rise.
-    pub sweeping-turn : (y' : List ℕ) (r : ℕ) → a < length from → Eases from to gap flow y a y' r
-        → Sweeping from to gap flow n old y' (lifted + r) (a + 1)
+    pub sweeping-turn : (y' : List ℕ) (r : Bool) → a < length from → Eases from to gap flow y a y' r
+        → Sweeping from to gap flow n old y' (lifted + bool_byte r) (a + 1)
     sweeping-turn y' r h (holds z e k t) =
         rw e (record {
           long = s.long;
@@ -104,8 +100,8 @@ module _ (from to gap flow : List ℕ) (n : ℕ) (shape : Shaped from to gap n) 
             | no m ↦ s.none (omega arith) i (omega arith)
           ];
           less = s.less;
-          some = λ p. s.some (omega arith);
-          few = omega (arith, s.few);
+          some = λ p. s.some (omega (arith, ap bool_byte z));
+          few = omega (arith, s.few, ap bool_byte z);
         })
     sweeping-turn y' r h (lifts o l) =
         let fall = lift-less from to gap flow n row_limit shape hold y fits-now s.heights a h y' l in
@@ -113,18 +109,21 @@ module _ (from to gap flow : List ℕ) (n : ℕ) (shape : Shaped from to gap n) 
           long = lift-long from to gap flow n row_limit shape hold y fits-now s.heights a h y' l ∙ s.long;
           rest = lift-rest from to gap flow n row_limit shape hold y fits-now s.heights a h y' l ∙ s.rest;
           heights = lift-heights from to gap flow n row_limit shape hold y fits-now s.heights a h y' l;
-          none = λ q i b. absurd (omega arith);
+          none = λ q i b. absurd (omega (arith, ap bool_byte o));
           less = omega (arith, s.less);
           some = λ p. omega (arith, s.less);
-          few = omega (arith, s.few);
+          few = omega (arith, s.few, ap bool_byte o);
         }
 
-    pub sweeping-ends : length from ≤ a → Swept from to gap flow n old y lifted
+    pub sweeping-ends : length from ≤ a → Swept from to gap flow n old y (ltb 0 lifted)
     sweeping-ends h =
         record {
           long = s.long;
           rest = s.rest;
           heights = s.heights;
-          none = λ e. record { kept = λ i b. (s.none e i (omega arith)).0; tight = λ i b. (s.none e i (omega arith)).1 };
-          some = s.some;
+          none = λ e. record { kept = λ i b. (s.none (no-lift e) i (omega arith)).0; tight = λ i b. (s.none (no-lift e) i (omega arith)).1 };
+          some = λ e. s.some (ltb-true 0 lifted e);
         }
+      where
+        no-lift : ltb 0 lifted ≡ false → lifted ≡ 0
+        no-lift e = omega (arith, ltb-false 0 lifted e)

@@ -28,7 +28,3 @@ link_all ends head next = link_from 0 ends (lists_of (replicate (length head) 0)
 -- the link to read on at in the list of node v: the first one where link is 0
 unfoldable pub link_at : List ℕ → ℕ → ℕ → ℕ
 link_at head v link = cond (ltb 0 link) link (at head v)
-
--- node v put at place i of the queue, where there is such a place
-unfoldable pub node_put : List ℕ → ℕ → ℕ → List ℕ
-node_put queue i v = cond (ltb i (length queue)) (set queue i v) queue

@@ -1,5 +1,5 @@
 -- Relaxation: an edge that is not held has an end that must rise.
-use Rattle.std.specs.Prelude.{◌≡◌, List, [], ◌∷◌, ℕ, ◌+◌, ◌-◌, ◌≤◌, ◌<◌, length, set, drop}
+use Rattle.std.specs.Prelude.{◌≡◌, Bool, true, false, List, [], ◌∷◌, ℕ, ◌+◌, ◌-◌, ◌≤◌, ◌<◌, length, set, drop}
 use Rattle.graph.specs.Rows.{at}
 use Rattle.buffers.specs.Written.{word_limit}
 use Rattle.relaxation.specs.Limits.{row_limit}
@@ -25,11 +25,11 @@ pub record TailIs (lo g hi x r : ℕ) : Type 0 where
   pub raised : lo < r → (0 < x) × (r + g ≡ hi)
   pub still : r ≡ lo → 0 < x → hi ≤ lo + g
 
--- whether an end moved: r is 1 where one did
-pub data MovedIs (lo low hi high r : ℕ) : Type 0 where
-  neither : r ≡ 0 → low ≡ lo → high ≡ hi → MovedIs lo low hi high r
-  tail-moved : r ≡ 1 → (low ≡ lo → ⊥) → MovedIs lo low hi high r
-  head-moved : r ≡ 1 → (high ≡ hi → ⊥) → MovedIs lo low hi high r
+-- r tells whether an end moved
+pub data MovedIs (lo low hi high : ℕ) (r : Bool) : Type 0 where
+  neither : r ≡ false → low ≡ lo → high ≡ hi → MovedIs lo low hi high r
+  tail-moved : r ≡ true → (low ≡ lo → ⊥) → MovedIs lo low hi high r
+  head-moved : r ≡ true → (high ≡ hi → ⊥) → MovedIs lo low hi high r
 
 -- y' is y with one end of edge a lifted: its head where the edge is too short, its tail where it is used and too long
 pub data Lifts (from to gap flow y : List ℕ) (a : ℕ) (y' : List ℕ) : Type 0 where
@@ -38,10 +38,10 @@ pub data Lifts (from to gap flow y : List ℕ) (a : ℕ) (y' : List ℕ) : Type 
       → Lifts from to gap flow y a y'
 
 -- edge a is held, and nothing changes, or an end of it is lifted
-pub data Eases (from to gap flow y : List ℕ) (a : ℕ) (y' : List ℕ) (r : ℕ) : Type 0 where
-  holds : r ≡ 0 → y' ≡ y → at y (at from a) + at gap a ≤ at y (at to a) → (0 < at flow a → at y (at to a) ≤ at y (at from a) + at gap a)
+pub data Eases (from to gap flow y : List ℕ) (a : ℕ) (y' : List ℕ) (r : Bool) : Type 0 where
+  holds : r ≡ false → y' ≡ y → at y (at from a) + at gap a ≤ at y (at to a) → (0 < at flow a → at y (at to a) ≤ at y (at from a) + at gap a)
       → Eases from to gap flow y a y' r
-  lifts : r ≡ 1 → Lifts from to gap flow y a y' → Eases from to gap flow y a y' r
+  lifts : r ≡ true → Lifts from to gap flow y a y' → Eases from to gap flow y a y' r
 
 -- each entry is the height of a residual walk
 pub record Heights (from to gap flow : List ℕ) (n : ℕ) (y : List ℕ) : Type 0 where
@@ -53,9 +53,9 @@ headroom top [] = 0
 headroom top (x ∷ xs) = (top - x) + headroom top xs
 
 -- after a sweep over all edges: where no end was lifted, all edges are held; where one was, there is less room to rise
-pub record Swept (from to gap flow : List ℕ) (n : ℕ) (old y : List ℕ) (lifted : ℕ) : Type 0 where
+pub record Swept (from to gap flow : List ℕ) (n : ℕ) (old y : List ℕ) (lifted : Bool) : Type 0 where
   pub long : length y ≡ length old
   pub rest : drop n y ≡ drop n old
   pub heights : Heights from to gap flow n y
-  pub none : lifted ≡ 0 → Held from to gap flow (at y)
-  pub some : 0 < lifted → headroom row_limit y < headroom row_limit old
+  pub none : lifted ≡ false → Held from to gap flow (at y)
+  pub some : lifted ≡ true → headroom row_limit y < headroom row_limit old

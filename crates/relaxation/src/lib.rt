@@ -3,4 +3,6 @@
 
 pub mod arcs;
 pub mod low;
+pub mod net;
 pub mod relax;
+pub mod scratch;

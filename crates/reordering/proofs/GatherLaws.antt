@@ -1,15 +1,14 @@
 -- The points of a row, gathered from a flat order.
 use mathlib.Core.Path.{◌≡◌, refl, sym, ap, ◌∙◌}
 use mathlib.Core.Bool.{Bool, true, false, cond}
-use mathlib.Core.List.{List, [], ◌∷◌, ◌++◌}
+use mathlib.Core.List.{List, [], ◌∷◌, ◌++◌, append_assoc, append-nil}
 use Prim.Native.Nat.{ℕ, suc, ◌+◌, ◌≤◌, ◌<◌}
 use native.Mathlib.Omega.{arith}
 use lib.Dec.{eqb}
-use lib.ListN.{length, set, drop}
+use lib.ListN.{length, drop, length-append}
 use borrow.Author.Tests.{eq-eqb, ne_eqb}
 use Rattle.graph.specs.Rows.{at}
-use Rattle.buffers.specs.Written.{Stored}
-use Rattle.buffers.proofs.WriteLaws.{drop-turn, drop-end, stored_one, stored-none, Writing, writing_start, writing-long, writing-part, writing-end}
+use Rattle.buffers.proofs.WriteLaws.{drop-turn, drop-end}
 use Rattle.reordering.specs.Stacked.{points_of}
 
 -- ---- one point
@@ -22,29 +21,20 @@ points-turn row r p order = go (eqb (at row p) r)
     go true = refl
     go false = refl
 
-one-few : (row : List ℕ) (r p : ℕ) → length (points_of row r (p ∷ [])) ≤ 1
+pub point-in : (row : List ℕ) (r p : ℕ) → at row p ≡ r → points_of row r (p ∷ []) ≡ p ∷ []
 unfolding points_of
-one-few row r p = go (eqb (at row p) r)
-  where
-    go : (b : Bool) → length (cond b (p ∷ []) []) ≤ 1
-    go true = omega arith
-    go false = omega arith
+point-in row r p e = rw (eq-eqb (at row p) r e) refl
 
-module _ (row : List ℕ) (r p : ℕ) (points : List ℕ) (k : ℕ) where
-  pub added : at row p ≡ r → Stored points k (points_of row r (p ∷ [])) (set points k p) (k + 1)
-  unfolding points_of
-  added e = rw (eq-eqb (at row p) r e) (stored_one points k p)
-
-  pub left_out : (at row p ≡ r → ⊥) → Stored points k (points_of row r (p ∷ [])) points k
-  unfolding points_of
-  left_out n = rw (ne_eqb (at row p) r n) (stored-none points k)
+pub point-out : (row : List ℕ) (r p : ℕ) → (at row p ≡ r → ⊥) → points_of row r (p ∷ []) ≡ []
+unfolding points_of
+point-out row r p n = rw (ne_eqb (at row p) r n) refl
 
 -- ---- the loop
 
--- What is stored and the points of the row from entry i on make the whole.
-pub record Gathering (row order : List ℕ) (r : ℕ) (old points : List ℕ) (k i : ℕ) : Type 0 where
-  pub early : k ≤ i
-  pub writing : Writing old 0 (points_of row r order) points k (points_of row r (drop i order))
+-- What is gathered and the points of the row from entry i on make the whole.
+pub record Gathering (row order : List ℕ) (r : ℕ) (points : List ℕ) (i : ℕ) : Type 0 where
+  pub early : length points ≤ i
+  pub whole : points_of row r order ≡ points ++ points_of row r (drop i order)
 
 pub gathered-few : (row : List ℕ) (r : ℕ) (order : List ℕ) → length (points_of row r order) ≤ length order
 unfolding points_of
@@ -55,24 +45,26 @@ gathered-few row r (p ∷ order) = go (eqb (at row p) r) (gathered-few row r ord
     go true h = omega arith
     go false h = omega arith
 
-pub gathering-start : (row order : List ℕ) (r : ℕ) (old : List ℕ) → length order ≤ length old → Gathering row order r old old 0 0
-gathering-start row order r old h =
-    record { early = omega arith; writing = writing_start old 0 (points_of row r order) (omega (arith, gathered-few row r order)) }
+pub gathering-start : (row order : List ℕ) (r : ℕ) → Gathering row order r [] 0
+gathering-start row order r = record { early = omega arith; whole = refl }
 
-module _ (row order : List ℕ) (r : ℕ) (old points : List ℕ) (k i : ℕ) (g : Gathering row order r old points k i) where
-  pub gathering-room : i < length order → length order ≤ length old → k < length points
-  gathering-room h l = omega (arith, g.early, writing-long g.writing)
+module _ (row order : List ℕ) (r : ℕ) (points : List ℕ) (i : ℕ) (g : Gathering row order r points i) where
+  gathering-turn : i < length order → points_of row r (drop i order) ≡ points_of row r (at order i ∷ []) ++ points_of row r (drop (i + 1) order)
+  gathering-turn h = ap (points_of row r) (drop-turn order i h) ∙ points-turn row r (at order i) (drop (i + 1) order)
 
-  pub gathering-more : i < length order → (p : ℕ) → p ≡ at order i → (points' : List ℕ) (k' : ℕ) → Stored points k (points_of row r (p ∷ [])) points' k'
-      → Gathering row order r old points' k' (i + 1)
-  gathering-more h p e points' k' s =
-      let turn : points_of row r (drop i order) ≡ points_of row r (p ∷ []) ++ points_of row r (drop (i + 1) order) =
-      ap (points_of row r) (drop-turn order i h ∙ ap (λ (q : ℕ). q ∷ drop (i + 1) order) (sym e)) ∙ points-turn row r p (drop (i + 1) order) in
-      record {
-        early = omega (arith, g.early, s.counts, one-few row r p);
-        writing = writing-part (points_of row r (p ∷ [])) (points_of row r (drop (i + 1) order)) turn g.writing s;
-      }
+  pub gathering_in : i < length order → at row (at order i) ≡ r → Gathering row order r (points ++ (at order i ∷ [])) (i + 1)
+  gathering_in h e = record {
+    early = omega (arith, g.early, length-append points (at order i ∷ []));
+    whole = g.whole ∙ ap (λ (l : List ℕ). points ++ l) (gathering-turn h ∙ ap (λ (l : List ℕ). l ++ points_of row r (drop (i + 1) order)) (point-in row r (at order i) e))
+        ∙ sym (append_assoc points (at order i ∷ []) (points_of row r (drop (i + 1) order)));
+  }
 
-  pub gathering-end : length order ≤ i → Stored old 0 (points_of row r order) points k
+  pub gathering-out : i < length order → (at row (at order i) ≡ r → ⊥) → Gathering row order r points (i + 1)
+  gathering-out h n = record {
+    early = omega (arith, g.early);
+    whole = g.whole ∙ ap (λ (l : List ℕ). points ++ l) (gathering-turn h ∙ ap (λ (l : List ℕ). l ++ points_of row r (drop (i + 1) order)) (point-out row r (at order i) n));
+  }
+
+  pub gathering-end : length order ≤ i → points ≡ points_of row r order
   unfolding points_of
-  gathering-end h = writing-end (ap (points_of row r) (drop-end order i h)) g.writing
+  gathering-end h = sym (g.whole ∙ ap (λ (l : List ℕ). points ++ points_of row r l) (drop-end order i h) ∙ append-nil points)

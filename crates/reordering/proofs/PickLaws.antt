@@ -1,20 +1,20 @@
 -- The segments from a row, picked from all.
-use mathlib.Core.Path.{◌≡◌, refl, ap, ◌∙◌}
+use mathlib.Core.Path.{◌≡◌, refl, sym, ap, ◌∙◌}
 use mathlib.Core.Bool.{Bool, true, false, cond}
-use mathlib.Core.List.{List, [], ◌∷◌, ◌++◌, map, map-append, tail}
+use mathlib.Core.List.{List, [], ◌∷◌, ◌++◌, map, map-append, append_assoc, append-nil, tail}
 use Prim.Native.Nat.{ℕ, suc, ◌+◌, ◌≤◌, ◌<◌}
 use native.Mathlib.Omega.{arith}
 use lib.Dec.{eqb}
-use lib.ListN.{length, set, drop, length-map}
+use lib.ListN.{length, drop, length-append}
 use borrow.Author.Tests.{eq-eqb, ne_eqb}
 use Rattle.graph.specs.Rows.{at}
-use Rattle.buffers.specs.Written.{Stored}
-use Rattle.buffers.proofs.WriteLaws.{drop-turn, drop-end, stored_one, stored-none, Writing, writing_start, writing-long, writing-part, writing-end}
+use Rattle.buffers.proofs.WriteLaws.{drop-turn, drop-end}
 use Rattle.points.specs.Points.{Segment}
 use Rattle.crossings.specs.Crossings.{PlacedSegment, in_row}
-use Rattle.crossings.proofs.CountLaws.{in_row-most}
+use Rattle.crossings.specs.Between.{segment_to}
+use Rattle.pairs.specs.declared.ends.Ends.{Ends}
+use Rattle.pairs.specs.Segments.{placed_end, placed}
 use Rattle.passes.specs.Laid.{segments_in}
-use Rattle.reordering.specs.Stacked.{upper_places, lower_places}
 use Rattle.reordering.specs.Picking.{placed_in, starting_in}
 
 -- ---- one segment
@@ -27,25 +27,17 @@ row-turn r s l = go (eqb s.row r)
     go true = refl
     go false = refl
 
-one-few : (r : ℕ) (s : PlacedSegment) → length (in_row r (s ∷ [])) ≤ 1
-unfolding in_row
-one-few r s = go (eqb s.row r)
-  where
-    go : (b : Bool) → length (cond b (s ∷ []) []) ≤ 1
-    go true = omega arith
-    go false = omega arith
+module _ (row pos : List ℕ) (r u l : ℕ) where
+  abbrev segment : PlacedSegment
+  segment = placed_in row pos (record { upper = u; lower = l })
 
-module _ (row pos : List ℕ) (r u l : ℕ) (high low : List ℕ) (s : ℕ) where
-  abbrev one : List PlacedSegment
-  one = in_row r (placed_in row pos (record { upper = u; lower = l }) ∷ [])
-
-  pub added : at row u ≡ r → Stored high s (upper_places one) (set high s (at pos u)) (s + 1) × Stored low s (lower_places one) (set low s (at pos l)) (s + 1)
+  segment-in : at row u ≡ r → in_row r (segment ∷ []) ≡ placed_end r (record { upper = at pos u; lower = at pos l }) ∷ []
   unfolding in_row
-  added e = rw (eq-eqb (at row u) r e) (stored_one high s (at pos u), stored_one low s (at pos l))
+  segment-in e = rw (eq-eqb (at row u) r e) (ap (λ (q : ℕ). segment_to q (at pos u) (at pos l) ∷ []) e)
 
-  pub left_out : (at row u ≡ r → ⊥) → Stored high s (upper_places one) high s × Stored low s (lower_places one) low s
+  segment-out : (at row u ≡ r → ⊥) → in_row r (segment ∷ []) ≡ []
   unfolding in_row
-  left_out n = rw (ne_eqb (at row u) r n) (stored-none high s, stored-none low s)
+  segment-out n = rw (ne_eqb (at row u) r n) refl
 
 -- ---- the loop
 
@@ -74,59 +66,35 @@ unfolding segments_in
 segments-count [] lower = refl
 segments-count (u ∷ upper) lower = ap suc (segments-count upper (tail lower))
 
--- What is stored and the segments of the row from k on make the whole.
-pub record Picking (upper lower row pos : List ℕ) (r : ℕ) (high₀ low₀ high low : List ℕ) (s k : ℕ) : Type 0 where
-  pub early : s ≤ k
-  pub highs : Writing high₀ 0 (upper_places (picked upper lower row pos r 0)) high s (upper_places (picked upper lower row pos r k))
-  pub lows : Writing low₀ 0 (lower_places (picked upper lower row pos r 0)) low s (lower_places (picked upper lower row pos r k))
+-- What is picked and the segments of the row from k on make the whole.
+pub record Picking (upper lower row pos : List ℕ) (r : ℕ) (ends : List Ends) (k : ℕ) : Type 0 where
+  pub early : length ends ≤ k
+  pub whole : starting_in upper lower row pos r ≡ placed r ends ++ picked upper lower row pos r k
 
-module _ (upper lower row pos : List ℕ) (r : ℕ) (high₀ low₀ : List ℕ) where
-  few : length (picked upper lower row pos r 0) ≤ length upper
-  few =
-      omega (
-        arith,
-        in_row-most r (map (placed_in row pos) (segments_in upper lower)),
-        length-map (segments_in upper lower) (placed_in row pos),
-        segments-count upper lower,
-      )
+pub picking-start : (upper lower row pos : List ℕ) (r : ℕ) → Picking upper lower row pos r [] 0
+picking-start upper lower row pos r = record { early = omega arith; whole = refl }
 
-  high-few : length (upper_places (picked upper lower row pos r 0)) ≤ length upper
-  high-few = omega (arith, few, length-map (picked upper lower row pos r 0) (λ (s : PlacedSegment). s.upper))
+module _ (upper lower row pos : List ℕ) (r : ℕ) (ends : List Ends) (k : ℕ) (p : Picking upper lower row pos r ends k) where
+  abbrev pub end_at : Ends
+  end_at = record { upper = at pos (at upper k); lower = at pos (at lower k) }
 
-  low-few : length (lower_places (picked upper lower row pos r 0)) ≤ length upper
-  low-few = omega (arith, few, length-map (picked upper lower row pos r 0) (λ (s : PlacedSegment). s.lower))
+  pub picking_in : k < length upper → length lower ≡ length upper → at row (at upper k) ≡ r → Picking upper lower row pos r (ends ++ (end_at ∷ [])) (k + 1)
+  picking_in h both e = record {
+    early = omega (arith, p.early, length-append ends (end_at ∷ []));
+    whole = p.whole
+        ∙ ap (λ (l : List PlacedSegment). placed r ends ++ l)
+        (picked-turn upper lower row pos r k h both ∙ ap (λ (l : List PlacedSegment). l ++ picked upper lower row pos r (k + 1)) (segment-in row pos r (at upper k) (at lower k) e))
+        ∙ sym (append_assoc (placed r ends) (placed_end r end_at ∷ []) (picked upper lower row pos r (k + 1)))
+        ∙ ap (λ (l : List PlacedSegment). l ++ picked upper lower row pos r (k + 1)) (sym (map-append (placed_end r) ends (end_at ∷ [])));
+  }
 
-  pub picking-start : length upper ≤ length high₀ → length upper ≤ length low₀ → Picking upper lower row pos r high₀ low₀ high₀ low₀ 0 0
-  picking-start h l =
-      record {
-        early = omega arith;
-        highs = writing_start high₀ 0 (upper_places (picked upper lower row pos r 0)) (omega (arith, high-few));
-        lows = writing_start low₀ 0 (lower_places (picked upper lower row pos r 0)) (omega (arith, low-few));
-      }
+  pub picking-out : k < length upper → length lower ≡ length upper → (at row (at upper k) ≡ r → ⊥) → Picking upper lower row pos r ends (k + 1)
+  picking-out h both n = record {
+    early = omega (arith, p.early);
+    whole = p.whole
+        ∙ ap (λ (l : List PlacedSegment). placed r ends ++ l)
+        (picked-turn upper lower row pos r k h both ∙ ap (λ (l : List PlacedSegment). l ++ picked upper lower row pos r (k + 1)) (segment-out row pos r (at upper k) (at lower k) n));
+  }
 
-  module _ (high low : List ℕ) (s k : ℕ) (p : Picking upper lower row pos r high₀ low₀ high low s k) where
-    pub picking-long : (length high ≡ length high₀) × (length low ≡ length low₀)
-    picking-long = (writing-long p.highs, writing-long p.lows)
-
-    module _ (h : k < length upper) (both : length lower ≡ length upper) (high' low' : List ℕ) (s' : ℕ)
-        (a : Stored high s (upper_places (in_row r (placed_in row pos (segment_at upper lower k) ∷ []))) high' s')
-        (b : Stored low s (lower_places (in_row r (placed_in row pos (segment_at upper lower k) ∷ []))) low' s') where
-      abbrev part : List PlacedSegment
-      part = in_row r (placed_in row pos (segment_at upper lower k) ∷ [])
-
-      pub picking-more : Picking upper lower row pos r high₀ low₀ high' low' s' (k + 1)
-      picking-more =
-          record {
-            early = omega (arith, p.early, a.counts, length-map part (λ (t : PlacedSegment). t.upper), one-few r (placed_in row pos (segment_at upper lower k)));
-            highs = writing-part (upper_places part) (upper_places (picked upper lower row pos r (k + 1)))
-                (ap upper_places (picked-turn upper lower row pos r k h both) ∙ map-append (λ (t : PlacedSegment). t.upper) part (picked upper lower row pos r (k + 1))) p.highs a;
-            lows = writing-part (lower_places part) (lower_places (picked upper lower row pos r (k + 1)))
-                (ap lower_places (picked-turn upper lower row pos r k h both) ∙ map-append (λ (t : PlacedSegment). t.lower) part (picked upper lower row pos r (k + 1))) p.lows b;
-          }
-
-    pub picking-end : length upper ≤ k
-        → Stored high₀ 0 (upper_places (starting_in upper lower row pos r)) high s × Stored low₀ 0 (lower_places (starting_in upper lower row pos r)) low s
-    picking-end h = (
-      writing-end (ap upper_places (picked-end upper lower row pos r k h)) p.highs,
-      writing-end (ap lower_places (picked-end upper lower row pos r k h)) p.lows,
-    )
+  pub picking-end : length upper ≤ k → placed r ends ≡ starting_in upper lower row pos r
+  picking-end h = sym (p.whole ∙ ap (λ (l : List PlacedSegment). placed r ends ++ l) (picked-end upper lower row pos r k h) ∙ append-nil (placed r ends))

@@ -2,7 +2,7 @@
 use mathlib.Core.Path.{◌≡◌, refl, sym, ap, ◌∙◌, subst}
 use mathlib.Core.Bool.{Bool, true, false, cond}
 use mathlib.Core.List.{List, [], ◌∷◌, map, map-map}
-use Prim.Native.Nat.{ℕ, zero, suc, ◌-◌, ◌≤◌, ◌<◌}
+use Prim.Native.Nat.{ℕ, zero, suc, ◌≤◌, ◌<◌}
 use native.Mathlib.Omega.{arith}
 use lib.Dec.{eqb}
 use lib.ListN.{length, get_or, take}
@@ -16,7 +16,6 @@ use Rattle.buffers.proofs.RunLaws.{run_length, run_at}
 use Rattle.points.specs.Points.{Segment}
 use Rattle.points.proofs.PositionLaws.{position_in}
 use Rattle.crossings.specs.Crossings.{PlacedSegment, in_row}
-use Rattle.crossings.specs.Between.{segment_to}
 use Rattle.permutations.specs.Orders.{arrangements, Permutation}
 use Rattle.permutations.proofs.PointLaws.{below_each}
 use Rattle.permutations.proofs.ArrangedLaws.{arranged-map, arranged-permutes, arranged-some}
@@ -24,10 +23,12 @@ use Rattle.exchange.specs.Costs.{floor_of}
 use Rattle.exchange.specs.Best.{first_fewest}
 use Rattle.exchange.proofs.AgreeLaws.{floor-agree, floor-map}
 use Rattle.exchange.proofs.BestLaws.{IsFirstFewest, first-agree, first-map, first-is}
-use Rattle.pairs.specs.Segments.{reordered, crossings_in, pair_crossings, ends_at, ends_from, ends_after}
+use Rattle.std.specs.Prelude.{All}
+use Rattle.pairs.specs.declared.ends.Ends.{Ends}
+use Rattle.pairs.specs.Segments.{reordered, crossings_in, pair_crossings, placed}
 use Rattle.pairs.proofs.SegmentLaws.{run-once}
 use Rattle.reordering.specs.RowOrder.{row_crossings, best_row, pair_above, row_floor}
-use Rattle.reordering.specs.Stacked.{upper_places, lower_places, Stacked}
+use Rattle.reordering.specs.Stacked.{lower_places, Stacked}
 use Rattle.reordering.proofs.LabelLaws.{row-crossings, pair-above}
 use Rattle.reordering.proofs.PlaceLaws.{Landing, nowhere, lands, crossings-named, pair-named}
 use Rattle.reordering.proofs.StackLaws.{single, descending, arriving, arrive-row}
@@ -61,7 +62,7 @@ named-run (x ∷ l) =
     ap (λ (ks : List ℕ). x ∷ map (at (x ∷ l)) ks) (run-later 0 (length l))
     ∙ ap (λ (m : List ℕ). x ∷ m) (map-map (at (x ∷ l)) suc (run 0 (length l)) ∙ named-run l)
 
--- ---- segments written in two lists
+-- ---- segments
 
 -- all of them start from row r
 pub data AllFrom (r : ℕ) : List PlacedSegment → Type 0 where
@@ -77,28 +78,11 @@ row_from r (s ∷ ss) = go (eqb s.row r) refl (row_from r ss)
     go true e i = one_from (eqb-true s.row r e) i
     go false e i = i
 
-pub from-reordered : (r : ℕ) (order : List ℕ) (ss : List PlacedSegment) → AllFrom r ss → AllFrom r (map (reordered order) ss)
-from-reordered r order [] none_from = none_from
-from-reordered r order (s ∷ ss) (one_from e i) = one_from {s = reordered order s} e (from-reordered r order ss i)
-
-ends-shift : (r u l : ℕ) (upper lower : List ℕ) (k left : ℕ) → ends_from r (u ∷ upper) (l ∷ lower) (suc k) left ≡ ends_from r upper lower k left
-unfolding ends_from
-ends-shift r u l upper lower k zero = refl
-ends-shift r u l upper lower k (suc left) = ap (λ (ss : List PlacedSegment). ends_at r upper lower k ∷ ss) (ends-shift r u l upper lower (suc k) left)
-
-ends-all : (r : ℕ) (ss : List PlacedSegment) → AllFrom r ss → ends_from r (upper_places ss) (lower_places ss) 0 (length (upper_places ss)) ≡ ss
-unfolding ends_from
-ends-all r [] none_from = refl
-ends-all r (s ∷ ss) (one_from e i) =
-    ap (λ (rest : List PlacedSegment). segment_to r s.upper s.lower ∷ rest)
-    (ends-shift r s.upper s.lower (upper_places ss) (lower_places ss) 0 (length (upper_places ss)) ∙ ends-all r ss i)
-    ∙ ap (λ (q : ℕ). segment_to q s.upper s.lower ∷ ss) (sym e)
-
--- Segments from one row are those of the lists of their positions.
-pub ends-are : (r : ℕ) (ss : List PlacedSegment) → AllFrom r ss → ends_after r (upper_places ss) (lower_places ss) 0 ≡ ss
-ends-are r ss a =
-    let e : length (upper_places ss) - 0 ≡ length (upper_places ss) = omega arith in
-    ap (ends_from r (upper_places ss) (lower_places ss) 0) e ∙ ends-all r ss a
+-- the lower ends of segments are below n where their places are
+pub ends-low : (r n : ℕ) (ends : List Ends) → Below n (lower_places (placed r ends)) → All (λ e. e.lower < n) ends
+ends-low r n [] h k d l = absurd (omega arith)
+ends-low r n (e ∷ ends) h zero d l = h.below 0 (omega arith)
+ends-low r n (e ∷ ends) h (suc k) d l = ends-low r n ends (record { below = λ i g. h.below (suc i) (omega arith) }) k d (omega arith)
 
 -- those that end at points of a row end at positions in it
 pub landing-low : (points : List ℕ) (ss : List PlacedSegment) → Landing points ss → Below (length points) (lower_places (map (reordered points) ss))

@@ -1,5 +1,5 @@
 -- What the functions behind the best order of a row ask for and answer.
-use Rattle.std.specs.Prelude.{◌≡◌, cond, ℕ, ◌+◌, ◌≤◌, ◌<◌, eqb, length, get_or, take}
+use Rattle.std.specs.Prelude.{◌≡◌, cond, ℕ, ◌+◌, ◌≤◌, ◌<◌, eqb, length, get_or}
 use mathlib.Core.List.{List, [], ◌∷◌, flatten, map}
 use Rattle.graph.specs.Rows.{at}
 use Rattle.buffers.specs.Lists.{Below, occurs}
@@ -15,10 +15,7 @@ unfoldable pub points_of : List ℕ → ℕ → List ℕ → List ℕ
 points_of row r [] = []
 points_of row r (p ∷ order) = let rest = points_of row r order in cond (eqb (at row p) r) (p ∷ rest) rest
 
--- the positions of the upper ends of segments, and of the lower ends
-abbrev pub upper_places : List PlacedSegment → List ℕ
-upper_places ss = map (λ (s : PlacedSegment). s.upper) ss
-
+-- the positions of the lower ends of segments
 abbrev pub lower_places : List PlacedSegment → List ℕ
 lower_places ss = map (λ (s : PlacedSegment). s.lower) ss
 
@@ -45,11 +42,11 @@ pub record Stack (row upper lower order : List ℕ) (r : ℕ) : Type 0 where
   pub segs : List Segment
   pub stacked : Stacked o segs row upper lower order r
 
--- The answer for row r, whose points these are: whatever chart the flat lists stand for, the first entries of `found` are the positions
--- of the points in the best order, and the numbers are its crossings and the floor.
+-- The answer for row r, whose points these are: whatever chart the flat lists stand for, `found` has the positions of the points in the
+-- best order, and the numbers are its crossings and the floor.
 pub record RowFoundIs (row upper lower order points : List ℕ) (r tries : ℕ) (found : List ℕ) (crossings floor : ℕ) : Type 0 where
   pub order_is : (o : List (List ℕ)) (segs : List Segment) → Stacked o segs row upper lower order r
-      → map (at points) (take (length points) found) ≡ best_row row segs o r tries
+      → map (at points) (found) ≡ best_row row segs o r tries
   pub crossings_are : (o : List (List ℕ)) (segs : List Segment) → Stacked o segs row upper lower order r → crossings ≡ row_crossings row segs o r (best_row row segs o r tries)
   pub floor_is : (o : List (List ℕ)) (segs : List Segment) → Stacked o segs row upper lower order r → floor ≡ row_floor row segs o r
-  pub places : Below (length points) (take (length points) found)
+  pub places : Below (length points) (found)

@@ -1,12 +1,10 @@
--- The room in which the order of a chart is found: lists of 0s, of a length that the code fixes. There is room of two sizes. And what is
--- answered of the order.
+-- The room in which the order of a chart is found, of two sizes, and what is answered of the order.
 use Rattle.std.specs.Prelude.{◌≡◌, ℕ, ◌+◌, ◌/◌, ◌≤◌, ◌<◌, length, drop}
 use mathlib.Core.List.{List, ◌++◌, flatten}
 use Rattle.table.specs.Limits.{max_edges}
 use Rattle.buffers.specs.Lists.{Below}
 use Rattle.crossings.specs.Tally.{block_size}
 use Rattle.fewest.specs.Fewest.{Drawing}
-use Rattle.fewest.specs.Drafts.{Segmented}
 
 -- points for which the smaller room is made
 abbrev pub small_points : ℕ
@@ -17,8 +15,7 @@ abbrev pub segment_room : ℕ → ℕ
 segment_room limit = limit + max_edges
 
 -- points and segments in few enough rows for room that is made for so many points
-pub record Sketched (limit : ℕ) (row upper lower : List ℕ) (count : ℕ) : Type 0 where
-  pub segmented : Segmented row upper lower
+pub record Sketched (limit : ℕ) (row upper : List ℕ) (count : ℕ) : Type 0 where
   pub few_points : length row ≤ limit
   pub few_segments : length upper ≤ segment_room limit
   pub few_rows : count ≤ limit

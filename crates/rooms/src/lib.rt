@@ -2,17 +2,22 @@
 //
 // An array has its size when the code is compiled, so that all that a chart may need would be cleared for every chart. There is room of two
 // sizes, and the order of a small chart is found in the smaller.
+//
+// `Scratch` and the length of the copy stay clauses: they are about lent scratch and the points, which come in two structs.
 #![tactic(auto)]
 
-ghost use Rattle.std.specs.Prelude.{◌≡◌, true, ◌≤◌, length};
+ghost use Rattle.std.specs.Prelude.{◌≡◌, IsTrue, ◌+◌, ◌<◌, ◌≤◌, length};
 ghost use Rattle.points.specs.Limits.{max_points};
-ghost use Rattle.passes.specs.Laid.{segments_in};
+ghost use Rattle.passes.specs.Laid.{segments_in, rows_held};
 ghost use Rattle.fewest.specs.Fewest.{best_order};
-ghost use Rattle.rooms.specs.Rooms.{small_points, segment_room, Sketched, Room, DrawnIs};
+ghost use Rattle.fewest.specs.Drafts.{best_in, Roomy, Scratch, DrawingHeld};
+ghost use Rattle.rooms.specs.Rooms.{small_points, segment_room, Sketched, DrawnIs};
 
 use buffers::store_u16;
+use fewest::{Draft, Sketch};
+use passes::Work;
 use points::limits::MAX_POINTS;
-use sweep::find_fewest;
+use sweep::{SideRoom, find_fewest};
 use table::limits::MAX_EDGES;
 
 // Points for which the smaller room is made.
@@ -30,163 +35,89 @@ const MAX_STARTS: usize = MAX_POINTS + 1;
 
 // Of points in `count` rows and the ends of segments: the first order with fewest crossings, to the first entries of a buffer. Answers
 // its crossings.
-pub fn draw_order(
-    row: &[usize],
-    upper: &[usize],
-    lower: &[usize],
-    count: usize,
-    out: &mut [u16],
-) -> usize
-    requires sketched { Sketched max_points row.now upper.now lower.now count }
-    requires row_in_bounds { length row.now ≤ length out.old }
-    ensures { DrawnIs (best_order count row.now (segments_in upper.now lower.now)) out.old out.new result }
+pub fn draw_order(sketch: &Sketch<'_>, count: usize, out: &mut [u16]) -> usize
+    requires sketched { Sketched max_points sketch.now.row.now sketch.now.upper.now count }
+    requires row_in_bounds { length sketch.now.row.now ≤ length out.old }
+    ensures { DrawnIs (best_order count sketch.now.row.now (segments_in sketch.now.upper.now sketch.now.lower.now)) out.old out.new result }
 {
-    if is_small(row.len(), upper.len(), count) {
-        return draw_small(row, upper, lower, count, out);
+    if is_small(sketch, count) {
+        return draw_in::<SMALL_POINTS, SMALL_STARTS, SMALL_SEGMENTS>(sketch, count, out);
     }
-    draw_large(row, upper, lower, count, out)
+    draw_in::<MAX_POINTS, MAX_STARTS, MAX_SEGMENTS>(sketch, count, out)
 }
 
 // Is the smaller room enough.
-fn is_small(points: usize, segments: usize, rows: usize) -> bool
-    ensures { result ≡ true → (points ≤ small_points) × (segments ≤ segment_room small_points) × (rows ≤ small_points) }
+fn is_small(sketch: &Sketch<'_>, rows: usize) -> bool
+    ensures { IsTrue result → (length sketch.now.row.now ≤ small_points) × (length sketch.now.upper.now ≤ segment_room small_points) × (rows ≤ small_points) }
 {
-    if SMALL_POINTS < points {
-        return false;
-    }
-    if SMALL_SEGMENTS < segments {
-        return false;
-    }
-    rows <= SMALL_POINTS
+    sketch.row.len() <= SMALL_POINTS && sketch.upper.len() <= SMALL_SEGMENTS && rows <= SMALL_POINTS
 }
 
-// An order found in room for any chart.
-fn draw_large(
-    row: &[usize],
-    upper: &[usize],
-    lower: &[usize],
+// An order found in room for so many points, rows and segments, and stored.
+fn draw_in<const POINTS: usize, const STARTS: usize, const SEGMENTS: usize>(
+    sketch: &Sketch<'_>,
     count: usize,
     out: &mut [u16],
 ) -> usize
-    requires sketched { Sketched max_points row.now upper.now lower.now count }
-    requires row_in_bounds { length row.now ≤ length out.old }
-    ensures { DrawnIs (best_order count row.now (segments_in upper.now lower.now)) out.old out.new result }
+    requires sizes { (0 < POINTS) × (POINTS ≤ max_points) × (STARTS ≡ POINTS + 1) × (SEGMENTS ≡ segment_room POINTS) }
+    requires sketched { Sketched POINTS sketch.now.row.now sketch.now.upper.now count }
+    requires row_in_bounds { length sketch.now.row.now ≤ length out.old }
+    ensures { DrawnIs (best_order count sketch.now.row.now (segments_in sketch.now.upper.now sketch.now.lower.now)) out.old out.new result }
 {
-    let mut first = [0usize; MAX_STARTS];
-    let mut order = [0usize; MAX_POINTS];
-    let mut before = [0usize; MAX_POINTS];
-    let mut pos = [0usize; MAX_POINTS];
-    let mut totals = [0usize; MAX_POINTS];
-    let mut moved = [0usize; MAX_POINTS];
-    let mut above_head = [0usize; MAX_POINTS];
-    let mut above_links = [0usize; MAX_SEGMENTS];
-    let mut above = [0usize; MAX_POINTS];
-    let mut below_head = [0usize; MAX_POINTS];
-    let mut below_links = [0usize; MAX_SEGMENTS];
-    let mut below = [0usize; MAX_POINTS];
-    let mut saved = [0usize; MAX_POINTS];
-    draw_in(
-        row,
-        upper,
-        lower,
-        count,
-        &mut first,
-        &mut order,
-        &mut before,
-        &mut pos,
-        &mut totals,
-        &mut moved,
-        &mut above_head,
-        &mut above_links,
-        &mut above,
-        &mut below_head,
-        &mut below_links,
-        &mut below,
-        &mut saved,
-        out,
-    )
-}
-
-// The same in the smaller room.
-fn draw_small(
-    row: &[usize],
-    upper: &[usize],
-    lower: &[usize],
-    count: usize,
-    out: &mut [u16],
-) -> usize
-    requires sketched { Sketched small_points row.now upper.now lower.now count }
-    requires row_in_bounds { length row.now ≤ length out.old }
-    ensures { DrawnIs (best_order count row.now (segments_in upper.now lower.now)) out.old out.new result }
-{
-    let mut first = [0usize; SMALL_STARTS];
-    let mut order = [0usize; SMALL_POINTS];
-    let mut before = [0usize; SMALL_POINTS];
-    let mut pos = [0usize; SMALL_POINTS];
-    let mut totals = [0usize; SMALL_POINTS];
-    let mut moved = [0usize; SMALL_POINTS];
-    let mut above_head = [0usize; SMALL_POINTS];
-    let mut above_links = [0usize; SMALL_SEGMENTS];
-    let mut above = [0usize; SMALL_POINTS];
-    let mut below_head = [0usize; SMALL_POINTS];
-    let mut below_links = [0usize; SMALL_SEGMENTS];
-    let mut below = [0usize; SMALL_POINTS];
-    let mut saved = [0usize; SMALL_POINTS];
-    draw_in(
-        row,
-        upper,
-        lower,
-        count,
-        &mut first,
-        &mut order,
-        &mut before,
-        &mut pos,
-        &mut totals,
-        &mut moved,
-        &mut above_head,
-        &mut above_links,
-        &mut above,
-        &mut below_head,
-        &mut below_links,
-        &mut below,
-        &mut saved,
-        out,
-    )
-}
-
-// An order found in the room that is lent, and stored.
-fn draw_in(
-    row: &[usize],
-    upper: &[usize],
-    lower: &[usize],
-    count: usize,
-    first: &mut [usize],
-    order: &mut [usize],
-    before: &mut [usize],
-    pos: &mut [usize],
-    totals: &mut [usize],
-    moved: &mut [usize],
-    above_head: &mut [usize],
-    above_links: &mut [usize],
-    above: &mut [usize],
-    below_head: &mut [usize],
-    below_links: &mut [usize],
-    below: &mut [usize],
-    saved: &mut [usize],
-    out: &mut [u16],
-) -> usize
-    requires sketched { Sketched max_points row.now upper.now lower.now count }
-    requires room { Room (length row.now) (length upper.now) count first.old order.old before.old pos.old totals.old moved.old above_head.old above_links.old above.old below_head.old below_links.old below.old saved.old }
-    requires row_in_bounds { length row.now ≤ length out.old }
-    ensures { DrawnIs (best_order count row.now (segments_in upper.now lower.now)) out.old out.new result }
-{
-    let starts = &mut first[..count + 1];
-    let above_next = &mut above_links[..upper.len()];
-    let below_next = &mut below_links[..upper.len()];
-    let crossings = find_fewest(
-        row, upper, lower, starts, order, before, pos, totals, moved, above_head, above_next,
-        above, below_head, below_next, below, saved,
-    );
-    store_u16(saved, row.len(), out);
+    let mut first = [0usize; STARTS];
+    let mut order = [0usize; POINTS];
+    let mut before = [0usize; POINTS];
+    let mut pos = [0usize; POINTS];
+    let mut draft = Draft {
+        first: &mut first[..count + 1],
+        order: &mut order,
+        before: &mut before,
+        pos: &mut pos,
+    };
+    let mut totals = [0usize; POINTS];
+    let mut moved = [0usize; POINTS];
+    let mut work = Work {
+        totals: &mut totals,
+        moved: &mut moved,
+    };
+    let mut saved = [0usize; POINTS];
+    let crossings = find_in::<POINTS, SEGMENTS>(sketch, &mut draft, &mut work, &mut saved);
+    store_u16(&saved, sketch.row.len(), out);
     crossings
+}
+
+// The same with room for the segments on both sides of so many points.
+fn find_in<const POINTS: usize, const SEGMENTS: usize>(
+    sketch: &Sketch<'_>,
+    draft: &mut Draft<'_>,
+    work: &mut Work<'_>,
+    saved: &mut [usize],
+) -> usize
+    requires sizes { (POINTS ≤ max_points) × (SEGMENTS ≡ segment_room POINTS) }
+    requires points_fit { length sketch.now.row.now ≤ POINTS }
+    requires segments_fit { length sketch.now.upper.now ≤ SEGMENTS }
+    requires roomy { Roomy sketch.now.row.now draft.old.first.now draft.old.order.now draft.old.pos.now saved.old }
+    requires scratch { Scratch sketch.now.row.now work.old.totals.now work.old.moved.now }
+    requires first_in_bounds { rows_held draft.old.first.now ≤ length work.old.totals.now }
+    requires before_len { length draft.old.before.now ≡ length draft.old.order.now }
+    ensures { DrawingHeld (best_in sketch.now.row.now sketch.now.upper.now sketch.now.lower.now draft.old.first.now) saved.new result }
+{
+    let segments = sketch.upper.len();
+    let mut above_head = [0usize; POINTS];
+    let mut above_next = [0usize; SEGMENTS];
+    let mut above_counts = [0usize; POINTS];
+    let mut above = SideRoom {
+        head: &mut above_head,
+        next: &mut above_next[..segments],
+        counts: &mut above_counts,
+    };
+    let mut below_head = [0usize; POINTS];
+    let mut below_next = [0usize; SEGMENTS];
+    let mut below_counts = [0usize; POINTS];
+    let mut below = SideRoom {
+        head: &mut below_head,
+        next: &mut below_next[..segments],
+        counts: &mut below_counts,
+    };
+    find_fewest(sketch, draft, &mut above, &mut below, work, saved)
 }

@@ -2,15 +2,15 @@
 use mathlib.Core.Path.{◌≡◌, refl, sym, ap, subst, ◌∙◌}
 use mathlib.Core.Bool.{Bool, false}
 use mathlib.Core.List.{List, [], ◌∷◌, ◌++◌}
-use mathlib.Core.Option.{some, none}
+use Rattle.std.specs.Prelude.{Some, None, slice_get}
 use Prim.Native.Nat.{ℕ, zero, suc, ◌+◌, ◌-◌, ◌≤◌, ◌<◌}
 use native.Mathlib.Nat.{not-suc-le-zero, le_of_suc-le-suc}
 use native.Mathlib.Numerals.{add-one}
 use native.Mathlib.Omega.{arith}
-use lib.ListN.{length, get_or, take, drop, get_elem?, drop_of_length-le}
-use lib.Seq.{drop-cons, get_or-take, length-take-le}
+use lib.ListN.{length, get_or, drop, drop_of_length-le}
+use lib.Seq.{drop-cons}
 use Rattle.graph.specs.declared.Edge.{Edge}
-use Rattle.graph.specs.Rows.{at, no_edge}
+use Rattle.graph.specs.Rows.{at}
 use Rattle.points.specs.Points.{between}
 use Rattle.points.proofs.EdgeLaws.{between_all}
 use Rattle.points.proofs.PointLaws.{points-length}
@@ -21,24 +21,23 @@ use Rattle.merging.proofs.SameLaws.{drawn-length, drawn-get}
 use Rattle.ordering.specs.Calls.{point_count}
 use Rattle.spacing.specs.Limits.{max_xs}
 use Rattle.routes.specs.declared.Visit.{Visit}
-use Rattle.routes.specs.declared.VisitAnswer.TheVariants.{To, Nowhere}
 use Rattle.routes.specs.Routes.{line_visits, visits_from}
-use Rattle.routes.specs.Finding.{visit_answer, Routable}
+use Rattle.routes.specs.Finding.{Routable}
 use Rattle.routes.proofs.LeadLaws.{chart-lead}
 use Rattle.routes.proofs.VisitLaws.{line-count}
 
 -- ---- an index in two lists, one behind the other
 
-pub elem-front : {A : Type 0} (a b : List A) (i : ℕ) → i < length a → get_elem? (a ++ b) i ≡ get_elem? a i
+pub elem-front : {A : Type 0} (a b : List A) (i : ℕ) → i < length a → slice_get (a ++ b) i ≡ slice_get a i
 elem-front [] b i h = absurd (not-suc-le-zero h)
 elem-front (x ∷ a) b zero h = refl
 elem-front (x ∷ a) b (suc i) h = elem-front a b i (le_of_suc-le-suc h)
 
-pub elem-behind : {A : Type 0} (a b : List A) (i : ℕ) → length a ≤ i → get_elem? (a ++ b) i ≡ get_elem? b (i - length a)
-elem-behind [] b i h = let e : i ≡ i - 0 = omega arith in ap (get_elem? b) e
+pub elem-behind : {A : Type 0} (a b : List A) (i : ℕ) → length a ≤ i → slice_get (a ++ b) i ≡ slice_get b (i - length a)
+elem-behind [] b i h = let e : i ≡ i - 0 = omega arith in ap (slice_get b) e
 elem-behind (x ∷ a) b zero h = absurd (not-suc-le-zero h)
 elem-behind (x ∷ a) b (suc i) h =
-    let e : i - length a ≡ suc i - suc (length a) = omega arith in elem-behind a b i (le_of_suc-le-suc h) ∙ ap (get_elem? b) e
+    let e : i - length a ≡ suc i - suc (length a) = omega arith in elem-behind a b i (le_of_suc-le-suc h) ∙ ap (slice_get b) e
 
 -- ---- the lines from one on
 
@@ -70,16 +69,16 @@ module _ (ys : List ℕ) (turned : List Bool) (edges : List MergedEdge) where
 
   -- What is sought is at `left` of the strokes of the lines from i on, whose dummies are numbered from d on.
   pub record Seeking (index i d left : ℕ) : Type 0 where
-    pub same : get_elem? (visits_from ys turned (length ys) edges) index ≡ get_elem? (strokes_from i d) left
+    pub same : slice_get (visits_from ys turned (length ys) edges) index ≡ slice_get (strokes_from i d) left
     pub counted : d + dummies_from i ≡ point_count ys (drawn_edges turned edges)
 
   pub seeking-start : (index : ℕ) → Seeking index 0 (length ys) index
   seeking-start index = record { same = refl; counted = sym (points-length ys (drawn_edges turned edges)) }
 
   module _ (index i d left : ℕ) (s : Seeking index i d left) where
-    pub seeking-end : length edges ≤ i → get_elem? (visits_from ys turned (length ys) edges) index ≡ none
+    pub seeking-end : length edges ≤ i → slice_get (visits_from ys turned (length ys) edges) index ≡ None
     unfolding visits_from
-    seeking-end h = s.same ∙ ap (λ (l : List MergedEdge). get_elem? (visits_from ys turned d l) left) (drop_of_length-le edges h)
+    seeking-end h = s.same ∙ ap (λ (l : List MergedEdge). slice_get (visits_from ys turned d l) left) (drop_of_length-le edges h)
 
     module _ (h : i < length edges) (k : ℕ) (e : k ≡ dummies_of i) where
       -- the dummies of line i are among the points
@@ -89,69 +88,52 @@ module _ (ys : List ℕ) (turned : List Bool) (edges : List MergedEdge) where
       line-long : length (line_at i d) ≡ k + 2
       line-long = omega (arith, line-count (get_or edges i no_merged_edge) d (dummies_of i) (get_or turned (get_or edges i no_merged_edge).first false))
 
-      pub seeking-here : left < k + 2 → get_elem? (visits_from ys turned (length ys) edges) index
-          ≡ get_elem? (line_visits (get_or turned (get_or edges i no_merged_edge).first false) (get_or edges i no_merged_edge) d k) left
+      pub seeking-here : left < k + 2 → slice_get (visits_from ys turned (length ys) edges) index
+          ≡ slice_get (line_visits (get_or turned (get_or edges i no_merged_edge).first false) (get_or edges i no_merged_edge) d k) left
       seeking-here l =
-          s.same ∙ ap (λ (v : List Visit). get_elem? v left) (strokes-turn i h d)
+          s.same ∙ ap (λ (v : List Visit). slice_get v left) (strokes-turn i h d)
           ∙ elem-front (line_at i d) (strokes_from (i + 1) (d + dummies_of i)) left (omega (arith, line-long))
-          ∙ ap (λ (j : ℕ). get_elem? (line_visits (get_or turned (get_or edges i no_merged_edge).first false) (get_or edges i no_merged_edge) d j) left) (sym e)
+          ∙ ap (λ (j : ℕ). slice_get (line_visits (get_or turned (get_or edges i no_merged_edge).first false) (get_or edges i no_merged_edge) d j) left) (sym e)
 
       pub seeking-next : k + 2 ≤ left → Seeking index (i + 1) (d + k) (left - (k + 2))
       seeking-next l =
           record {
             same =
-                s.same ∙ ap (λ (v : List Visit). get_elem? v left) (strokes-turn i h d)
+                s.same ∙ ap (λ (v : List Visit). slice_get v left) (strokes-turn i h d)
                 ∙ elem-behind (line_at i d) (strokes_from (i + 1) (d + dummies_of i)) left (omega (arith, line-long))
-                ∙ ap (λ (j : ℕ). get_elem? (strokes_from (i + 1) (d + dummies_of i)) (left - j)) line-long
-                ∙ ap (λ (j : ℕ). get_elem? (strokes_from (i + 1) (d + j)) (left - (k + 2))) (sym e);
+                ∙ ap (λ (j : ℕ). slice_get (strokes_from (i + 1) (d + dummies_of i)) (left - j)) line-long
+                ∙ ap (λ (j : ℕ). slice_get (strokes_from (i + 1) (d + j)) (left - (k + 2))) (sym e);
             counted = omega (arith, s.counted, dummies-turn i h);
           }
 
--- ---- in arrays, as the code reads them
+-- ---- as the code reads them
 
-module _ (ys : List ℕ) (count : ℕ) (list : List MergedEdge) (turned : List Bool) (r : Routable ys count list turned) where
-  abbrev lines : List MergedEdge
-  lines = take count list
-
-  lines-count : length lines ≡ count
-  lines-count = length-take-le count list (omega (arith, r.directable.few, r.directable.long))
-
-  module _ (i : ℕ) (h : i < count) where
+module _ (ys : List ℕ) (lines : List MergedEdge) (turned : List Bool) (r : Routable ys lines turned) where
+  module _ (i : ℕ) (h : i < length lines) where
     abbrev line : MergedEdge
-    line = get_or list i no_merged_edge
-
-    line-is : get_or lines i no_merged_edge ≡ line
-    line-is = get_or-take count list i no_merged_edge h
-
-    inside : i < length lines
-    inside = omega (arith, lines-count)
-
-    drawn-is : get_or (drawn_edges turned lines) i no_edge ≡ drawn_edge turned line
-    drawn-is = drawn-get turned lines i inside ∙ ap (drawn_edge turned) line-is
+    line = get_or lines i no_merged_edge
 
     -- a line as it is drawn leads down from step to step
     module _ (g : Edge) (e : g ≡ drawn_edge turned line) where
       pub leads-down : (g.from < length ys) × ((g.to < length ys) × (at ys g.from < at ys g.to))
       leads-down =
-          let l = subst (Leads ys) (drawn-is ∙ sym e) ((chart-lead ys (drawn_edges turned lines) r.chart).leads i (omega (arith, inside, drawn-length turned lines))) in
+          let l = subst (Leads ys) (drawn-get turned lines i h ∙ sym e) ((chart-lead ys (drawn_edges turned lines) r.chart).leads i (omega (arith, h, drawn-length turned lines))) in
           (l.tail_node, (l.head_node, l.down))
 
       module _ (k : ℕ) (f : k ≡ at ys g.to - at ys g.from - 1) (index d left : ℕ) (s : Seeking ys turned lines index i d left) where
-        dummies-are : k ≡ between ys (drawn_edge turned (get_or lines i no_merged_edge))
-        dummies-are = f ∙ ap (between ys) (e ∙ ap (drawn_edge turned) (sym line-is))
+        dummies-are : k ≡ between ys (drawn_edge turned line)
+        dummies-are = f ∙ ap (between ys) e
 
         pub dummies-few : d + k ≤ max_xs
-        dummies-few = omega (arith, dummies-in ys turned lines index i d left s inside k dummies-are, r.few)
+        dummies-few = omega (arith, dummies-in ys turned lines index i d left s h k dummies-are, r.few)
 
-        pub found_here : left < k + 2 → (v : Visit) → get_elem? (line_visits (get_or turned line.first false) line d k) left ≡ some v
-            → To v ≡ visit_answer (get_elem? (visits_from ys turned (length ys) lines) index)
-        found_here l v found =
-            sym (ap visit_answer (seeking-here ys turned lines index i d left s inside k dummies-are l
-            ∙ ap (λ (e : MergedEdge). get_elem? (line_visits (get_or turned e.first false) e d k) left) line-is ∙ found))
+        pub found_here : left < k + 2 → (v : Visit) → slice_get (line_visits (get_or turned line.first false) line d k) left ≡ Some v
+            → Some v ≡ slice_get (visits_from ys turned (length ys) lines) index
+        found_here l v found = sym (seeking-here ys turned lines index i d left s h k dummies-are l ∙ found)
 
         pub found-later : k + 2 ≤ left → Seeking ys turned lines index (i + 1) (d + k) (left - (k + 2))
-        found-later l = seeking-next ys turned lines index i d left s inside k dummies-are l
+        found-later l = seeking-next ys turned lines index i d left s h k dummies-are l
 
-  pub found_nowhere : (index d left i : ℕ) → Seeking ys turned lines index i d left → count ≤ i
-      → Nowhere ≡ visit_answer (get_elem? (visits_from ys turned (length ys) lines) index)
-  found_nowhere index d left i s h = sym (ap visit_answer (seeking-end ys turned lines index i d left s (omega (arith, lines-count))))
+  pub found_nowhere : (index d left i : ℕ) → Seeking ys turned lines index i d left → length lines ≤ i
+      → None ≡ slice_get (visits_from ys turned (length ys) lines) index
+  found_nowhere index d left i s h = sym (seeking-end ys turned lines index i d left s h)

@@ -2,12 +2,12 @@
 use mathlib.Core.Path.{◌≡◌, refl, sym, ap, ◌∙◌}
 use mathlib.Core.Bool.{Bool, true, false}
 use mathlib.Core.List.{List, [], ◌∷◌}
-use mathlib.Core.Option.{some}
+use Rattle.std.specs.Prelude.{Some, slice_get}
 use Prim.Native.Nat.{ℕ, ◌+◌, ◌-◌, ◌*◌, ◌≤◌, ◌<◌}
 use native.Mathlib.Nat.{zero-lt-suc}
 use native.Mathlib.Decide.{dec_lt}
 use native.Mathlib.Omega.{arith}
-use lib.ListN.{length, get_or, get_elem?, length-append}
+use lib.ListN.{length, get_or, length-append}
 use Rattle.graph.specs.Directed.{directed}
 use Rattle.points.specs.Points.{between, segments}
 use Rattle.points.proofs.EdgeLaws.{between_all}
@@ -63,7 +63,7 @@ module _ (ys : List ℕ) (n : ℕ) (few : length ys ≤ n) where
 
   module _ (turned : List Bool) where
     pub visits-in : (d : ℕ) (edges : List MergedEdge) → AllLead ys (drawn_edges turned edges) → d + between_all ys (drawn_edges turned edges) ≤ n
-        → (i : ℕ) (v : Visit) → get_elem? (visits_from ys turned d edges) i ≡ some v → v.point < n
+        → (i : ℕ) (v : Visit) → slice_get (visits_from ys turned d edges) i ≡ Some v → v.point < n
     unfolding visits_from between_all drawn_edges
     visits-in d [] l f i v e = let z : ◌≡◌ {A = ℕ} 0 1 = cc in absurd (omega arith)
     visits-in d (e ∷ edges) l f i v s =
@@ -75,7 +75,7 @@ module _ (ys : List ℕ) (n : ℕ) (few : length ys ≤ n) where
         rest : List Visit
         rest = visits_from ys turned (d + between ys (drawn_edge turned e)) edges
 
-        go : ((i : ℕ) (v : Visit) → get_elem? rest i ≡ some v → v.point < n) → Dec (i < length line) → v.point < n
+        go : ((i : ℕ) (v : Visit) → slice_get rest i ≡ Some v → v.point < n) → Dec (i < length line) → v.point < n
         go later (yes h) =
             on-line-in (get_or turned e.first false) e d (between ys (drawn_edge turned e)) i v (l.leads 0 (zero-lt-suc _)) (omega arith)
             (on_line (get_or turned e.first false) e d (between ys (drawn_edge turned e)) i v (sym (elem-front line rest i h) ∙ s))

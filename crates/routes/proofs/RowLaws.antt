@@ -3,12 +3,12 @@ use mathlib.Core.Path.{◌≡◌, sym, ap, ◌∙◌}
 use mathlib.Core.Bool.{Bool, true, false, true≢false}
 use mathlib.Core.Logic.{◌⊎◌, inl, inr}
 use mathlib.Core.List.{List, [], ◌∷◌, ◌++◌}
-use mathlib.Core.Option.{some}
+use Rattle.std.specs.Prelude.{Some, slice_get}
 use Prim.Native.Nat.{ℕ, suc, ◌+◌, ◌-◌, ◌<◌}
 use native.Mathlib.Nat.{zero-lt-suc}
 use native.Mathlib.Decide.{dec_lt}
 use native.Mathlib.Omega.{arith}
-use lib.ListN.{length, get_or, drop, get_elem?, get_or-append}
+use lib.ListN.{length, get_or, drop, get_or-append}
 use lib.Seq.{get_or-drop, drop-drop, drop_at, drop-append_seam}
 use Rattle.graph.specs.Directed.{directed}
 use Rattle.graph.specs.Rows.{at}
@@ -82,13 +82,13 @@ module _ (ys rows : List ℕ) (nodes : (p : ℕ) → p < length ys → at rows p
 
   module _ (turned : List Bool) where
     -- the first stroke is a move
-    first-moves : (d : ℕ) (edges : List MergedEdge) (w : Visit) → get_elem? (visits_from ys turned d edges) 0 ≡ some w → w.start ≡ true
+    first-moves : (d : ℕ) (edges : List MergedEdge) (w : Visit) → slice_get (visits_from ys turned d edges) 0 ≡ Some w → w.start ≡ true
     unfolding visits_from line_visits
     first-moves d [] w e = let z : ◌≡◌ {A = ℕ} 0 1 = cc in absurd (omega arith)
     first-moves d (e ∷ edges) w s = cc
 
     pub rows-neighbour : (d : ℕ) (edges : List MergedEdge) → AllLead ys (drawn_edges turned edges) → drop d rows ≡ dummy_rows ys (drawn_edges turned edges)
-        → (i : ℕ) (v w : Visit) → get_elem? (visits_from ys turned d edges) i ≡ some v → get_elem? (visits_from ys turned d edges) (suc i) ≡ some w
+        → (i : ℕ) (v w : Visit) → slice_get (visits_from ys turned d edges) i ≡ Some v → slice_get (visits_from ys turned d edges) (suc i) ≡ Some w
         → w.start ≡ false → Neighbouring (at rows v.point) (at rows w.point)
     unfolding visits_from drawn_edges dummy_rows
     rows-neighbour d [] l f i v w p q s = let z : ◌≡◌ {A = ℕ} 0 1 = cc in absurd (omega arith)
@@ -113,25 +113,25 @@ module _ (ys rows : List ℕ) (nodes : (p : ℕ) → p < length ys → at rows p
         behind : drop (d + k) rows ≡ dummy_rows ys (drawn_edges turned edges)
         behind = sym (drop-drop k d rows) ∙ ap (drop k) f ∙ drop_at (run (suc r) k) (dummy_rows ys (drawn_edges turned edges)) k (run_length (suc r) k)
 
-        on : (j : ℕ) (u : Visit) → get_elem? line j ≡ some u → RowsOn flag (at ys e.from) j (at rows u.point)
+        on : (j : ℕ) (u : Visit) → slice_get line j ≡ Some u → RowsOn flag (at ys e.from) j (at rows u.point)
         on j u x = line_row e d j u (dummy_rows ys (drawn_edges turned edges)) flag (l.leads 0 (zero-lt-suc _)) f (on_line flag e d k j u x)
 
-        go : ((i : ℕ) (v w : Visit) → get_elem? rest i ≡ some v → get_elem? rest (suc i) ≡ some w → w.start ≡ false → Neighbouring (at rows v.point) (at rows w.point))
+        go : ((i : ℕ) (v w : Visit) → slice_get rest i ≡ Some v → slice_get rest (suc i) ≡ Some w → w.start ≡ false → Neighbouring (at rows v.point) (at rows w.point))
             → Dec (suc i < length line) → Dec (i < length line) → Neighbouring (at rows v.point) (at rows w.point)
         go later (yes h) x =
             rows_next flag (at ys e.from) i (on i v (sym (elem-front line rest i (omega arith)) ∙ p)) (on (suc i) w (sym (elem-front line rest (suc i) h) ∙ q))
         go later (no n) (yes h) =
             let first : suc i - length line ≡ 0 = omega (arith, n) in
-            absurd (true≢false (sym (first-moves (d + k) edges w (ap (get_elem? rest) (sym first) ∙ sym (elem-behind line rest (suc i) (omega (arith, n))) ∙ q)) ∙ s))
+            absurd (true≢false (sym (first-moves (d + k) edges w (ap (slice_get rest) (sym first) ∙ sym (elem-behind line rest (suc i) (omega (arith, n))) ∙ q)) ∙ s))
         go later (no n) (no m) =
             let next : suc i - length line ≡ suc (i - length line) = omega (arith, m) in
             later (i - length line) v w (sym (elem-behind line rest i (omega (arith, m))) ∙ p)
-            (ap (get_elem? rest) (sym next) ∙ sym (elem-behind line rest (suc i) (omega (arith, n))) ∙ q) s
+            (ap (slice_get rest) (sym next) ∙ sym (elem-behind line rest (suc i) (omega (arith, n))) ∙ q) s
 
 -- of a chart: the rows of its points begin with those of the steps
 pub strokes-neighbour : (ys : List ℕ) (turned : List Bool) (edges : List MergedEdge) → AllLead ys (drawn_edges turned edges)
-    → (i : ℕ) (v w : Visit) → get_elem? (visits_from ys turned (length ys) edges) i ≡ some v
-    → get_elem? (visits_from ys turned (length ys) edges) (suc i) ≡ some w → w.start ≡ false
+    → (i : ℕ) (v w : Visit) → slice_get (visits_from ys turned (length ys) edges) i ≡ Some v
+    → slice_get (visits_from ys turned (length ys) edges) (suc i) ≡ Some w → w.start ≡ false
     → Neighbouring (at (point_rows ys (drawn_edges turned edges)) v.point) (at (point_rows ys (drawn_edges turned edges)) w.point)
 strokes-neighbour ys turned edges l i v w p q s =
     rw (rows_are ys (drawn_edges turned edges))

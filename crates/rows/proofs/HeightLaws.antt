@@ -13,7 +13,8 @@ use Rattle.graph.proofs.PlacementLaws.{rows-low}
 use Rattle.graph.proofs.PathLaws.{path, path-length, path-get, path-top}
 use Rattle.table.specs.Limits.{max_steps, old_size, max_gap}
 use Rattle.table.specs.Fair.{FairEdge}
-use Rattle.rows.specs.Placed.{top_row, old_top_row, FairEdges}
+use Rattle.rows.specs.Limits.{top_row, old_top_row}
+use Rattle.rows.specs.Placed.{FairEdges}
 
 -- the bound for any number of nodes and any gaps, at the limit of gaps and any limit of nodes
 pub rows-within : (most n : ℕ) (edges : List Edge) → n ≤ most → ((i : ℕ) → i < length edges → (get_or edges i no_edge).gap ≤ max_gap)

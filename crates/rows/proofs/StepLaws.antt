@@ -3,9 +3,9 @@ use mathlib.Core.Path.{◌≡◌, refl, sym, ap, ◌∙◌, subst}
 use mathlib.Core.Bool.{Bool, true, false, cond}
 use mathlib.Core.Logic.{⊎_elim}
 use mathlib.Core.List.{List}
-use mathlib.Core.Option.{Option, none, some}
 use Prim.Native.Nat.{ℕ, zero, suc, ◌+◌, ◌≤◌, ◌<◌}
 use native.Mathlib.Omega.{arith}
+use Rattle.std.specs.Prelude.{Option, Some, None}
 use Rattle.graph.specs.declared.Edge.{Edge}
 use Rattle.graph.specs.Search.{rows_of}
 use Rattle.outcome.specs.declared.Refusal.{Refusal}
@@ -28,12 +28,12 @@ pub same : {A : Type 0} {r s : Refusal} → ◌≡◌ {A = Outcome A} (refused r
 same e = cc
 
 -- the first of k numbers from a on is below a + k
-first_below : (test : ℕ → Bool) (a k : ℕ) {s : ℕ} → first_from test a k ≡ some s → s < a + k
+first_below : (test : ℕ → Bool) (a k : ℕ) {s : ℕ} → first_from test a k ≡ Some s → s < a + k
 unfolding first_from
 first_below test a zero e = let z : ◌≡◌ {A = ℕ} 0 1 = cc in absurd (omega arith)
 first_below test a (suc k) {s} e = go (test a) (first_below test (suc a) k) e
   where
-    go : (b : Bool) → (first_from test (suc a) k ≡ some s → s < suc a + k) → cond b (some a) (first_from test (suc a) k) ≡ some s → s < a + suc k
+    go : (b : Bool) → (first_from test (suc a) k ≡ Some s → s < suc a + k) → cond b (Some a) (first_from test (suc a) k) ≡ Some s → s < a + suc k
     go true ih e = let h : a ≡ s = cc in omega arith
     go false ih e = omega (arith, ih e)
 
@@ -43,8 +43,8 @@ unfolding lowest_on_loop
 loop-step n edges rows {f} h e = go (lowest_on_loop n edges) refl e
   where
     go : (o : Option ℕ) → lowest_on_loop n edges ≡ o → unless_loop o rows ≡ refused f → StepLow f
-    go none l e = never e
-    go (some s) l e = subst StepLow (same e) (omega (arith, first_below (on_loop n edges) 0 n l))
+    go None l e = never e
+    go (Some s) l e = subst StepLow (same e) (omega (arith, first_below (on_loop n edges) 0 n l))
 
 pub found-step : (n : ℕ) (edges : List Edge) {f : Refusal} → n ≤ max_steps → rows_found n edges ≡ refused f → StepLow f
 unfolding rows_found

@@ -8,47 +8,26 @@ use native.Mathlib.Omega.{arith}
 use borrow.Author.Tests.{le-leb, lt-leb}
 use lib.Dec.{leb}
 use lib.ListN.{length, take, drop}
-use lib.Seq.{length-take-le, take_at}
+use lib.Seq.{take_at}
+use Rattle.std.specs.Prelude.{Result, Ok, Err, IfOk}
 use Rattle.graph.specs.declared.Edge.{Edge}
 use Rattle.graph.specs.Rows.{Best}
 use Rattle.outcome.specs.declared.Refusal.{Refusal}
 use Rattle.outcome.specs.declared.Refusal.TheVariants.{ShortBuffer}
-use Rattle.outcome.specs.declared.Verdict.{Verdict}
-use Rattle.outcome.specs.declared.Verdict.TheVariants.{Accepted}
-use Rattle.outcome.specs.declared.Verdict as verdict
 use Rattle.outcome.specs.Refusal.{Outcome, done, numbers_of, number_of, refusal_in}
 use Rattle.outcome.proofs.ToldLaws.{number-some}
 use Rattle.rows.specs.declared.types.RowsFound.{RowsFound}
-use Rattle.rows.specs.declared.types.RowsAnswer.{RowsAnswer}
-use Rattle.rows.specs.declared.types.RowsAnswer.TheVariants.{Done, Refused}
 use Rattle.rows.specs.Answers.{RowsEnd, rows_end, rows_numbers, RowsBest}
-use Rattle.rows.specs.Placed.{outcome_by, held_rows, RowsStorable, Placed, RowsHandedOut}
+use Rattle.rows.specs.Placed.{held_rows, RowsPlaced, Placed, RowsHandedOut}
 
--- ---- an outcome in an array, handed out
+-- ---- rows handed out
 
-module _ (n : ℕ) (f : RowsFound) (low : RowsStorable n f) (old : List ℕ) where
-  pub handed-refused : {r : Refusal} → f.verdict ≡ verdict.TheVariants.Refused r → RowsHandedOut (held_rows n f) old old (Refused r)
-  handed-refused e = rw e (record { numbers = refl; rows = refl })
+module _ (rows old : List ℕ) where
+  pub handed-short : length old < length rows → RowsHandedOut (done rows) old old (Err ShortBuffer)
+  handed-short h = record { numbers = simp (lt-leb (length rows) (length old) h); rows = simp (lt-leb (length rows) (length old) h) }
 
-  module _ (a : f.verdict ≡ Accepted) where
-    count : length (take n f.rows) ≡ n
-    count = length-take-le n f.rows (omega (arith, low.long, low.few a))
-
-    pub handed-short : length old < n → RowsHandedOut (held_rows n f) old old (Refused ShortBuffer)
-    handed-short h =
-        rw a
-        (record {
-          numbers = simp (count, lt-leb n (length old) h);
-          rows = simp (count, lt-leb n (length old) h);
-        })
-
-    pub handed-done : n ≤ length old → (new : List ℕ) → new ≡ take n f.rows ++ drop n old → RowsHandedOut (held_rows n f) old new Done
-    handed-done h new e =
-        rw a
-        (record {
-          numbers = simp (count, le-leb n (length old) h);
-          rows = simp (count, le-leb n (length old) h) e;
-        })
+  pub handed-done : length rows ≤ length old → (new : List ℕ) → new ≡ rows ++ drop (length rows) old → RowsHandedOut (done rows) old new (Ok tt)
+  handed-done h new e = record { numbers = simp (le-leb (length rows) (length old) h); rows = simp (le-leb (length rows) (length old) h) e }
 
 -- ---- what was handed out is the best
 
@@ -56,27 +35,22 @@ module _ (n : ℕ) (f : RowsFound) (low : RowsStorable n f) (old : List ℕ) whe
 abbrev ends : List ℕ → List ℕ → Bool → RowsEnd
 ends rows old b = cond b (record { numbers = 0 ∷ []; rows = rows ++ drop (length rows) old }) (record { numbers = numbers_of ShortBuffer; rows = old })
 
-module _ (n : ℕ) (edges : List Edge) (what : Outcome (List ℕ)) (f : RowsFound) (placed : Placed n edges what f)
-    (old new : List ℕ) (r : RowsAnswer) (h : RowsHandedOut what old new r) where
-  abbrev rows : List ℕ
-  rows = take n f.rows
-
-  -- By the verdict, and by the test of the buffer: where the answer is 0, the first entries of the buffer are the rows.
-  pub handed-best : RowsBest n edges (rows_numbers r) new
-  handed-best zero = go f.verdict refl what placed.says (sym zero ∙ ap refusal_in h.numbers) h.rows
+module _ (n : ℕ) (edges : List Edge) (old new : List ℕ) where
+  -- By what was found, and by the test of the buffer: where the answer is 0, the first entries of the buffer are the rows.
+  found-best : (f : Result RowsFound Refusal) → IfOk f (RowsPlaced edges n) → (r : Result Unit Refusal) → RowsHandedOut (held_rows f) old new r
+      → RowsBest n edges (rows_numbers r) new
+  found-best (Ok f) p r h zero = fits (leb (length f.rows.items) (length old)) (sym zero ∙ ap refusal_in h.numbers) h.rows
     where
-      fits : (b : Bool) → f.verdict ≡ Accepted → 0 ≡ refusal_in (ends rows old b).numbers → new ≡ (ends rows old b).rows → Best n edges (take n new)
-      fits true a x y = subst (Best n edges) (sym (ap (take n) y ∙ take_at rows _ n (placed.best a).one_a_node)) (placed.best a)
-      fits false a x y = absurd (omega arith)
+      fits : (b : Bool) → 0 ≡ refusal_in (ends f.rows.items old b).numbers → new ≡ (ends f.rows.items old b).rows → Best n edges (take n new)
+      fits true x y = subst (Best n edges) (sym (ap (take n) y ∙ take_at f.rows.items _ n p.best.one_a_node)) p.best
+      fits false x y = absurd (omega arith)
+  found-best (Err k) p r h zero =
+      let q : 0 ≡ number_of k = sym zero ∙ ap refusal_in h.numbers in
+      absurd (omega (arith, number-some k))
 
-      go : (v : Verdict) → f.verdict ≡ v → (o : Outcome (List ℕ)) → outcome_by v rows ≡ o → 0 ≡ refusal_in (rows_end o old).numbers
-          → new ≡ (rows_end o old).rows → Best n edges (take n new)
-      go Accepted e o s a b =
-          fits (leb (length rows) (length old)) e (subst (λ x. 0 ≡ refusal_in (rows_end x old).numbers) (sym s) a)
-          (subst (λ x. new ≡ (rows_end x old).rows) (sym s) b)
-      go (verdict.TheVariants.Refused k) e o s a b =
-          let q : 0 ≡ number_of k = subst (λ x. 0 ≡ refusal_in (rows_end x old).numbers) (sym s) a in
-          absurd (omega (arith, number-some k))
+  pub handed-best : {what : Outcome (List ℕ)} {f : Result RowsFound Refusal} → Placed n edges what f → {r : Result Unit Refusal} → RowsHandedOut what old new r
+      → RowsBest n edges (rows_numbers r) new
+  handed-best {what} {f} placed {r} h = found-best f placed.placed r (subst (λ o. RowsHandedOut o old new r) (sym placed.says) h)
 
 -- ---- what a call tells
 

@@ -7,12 +7,15 @@ use native.Mathlib.Numerals.{add-one}
 use native.Mathlib.Omega.{arith}
 use lib.ListN.{length, get_or, drop}
 use lib.Seq.{drop-cons}
+use Rattle.std.specs.List.{zip}
+use Rattle.buffers.proofs.ZipLaws.{triple-at}
 use Rattle.graph.specs.declared.Edge.{Edge}
 use Rattle.graph.specs.Rows.{at, no_edge, total}
 use Rattle.relaxation.specs.Network.{edges_of}
 use Rattle.relaxation.proofs.EdgesLaws.{length-edges_of, edge_at}
 use Rattle.table.specs.Limits.{max_weight}
-use Rattle.rows.specs.Placed.{top_row, RowsSummable}
+use Rattle.rows.specs.Limits.{top_row}
+use Rattle.rows.specs.Placed.{RowsSummable}
 
 -- gaps play no part
 pub total-gaps : (from to gap gap' weight : List ℕ) (y : ℕ → ℕ) → total (edges_of from to gap weight) y ≡ total (edges_of from to gap' weight) y
@@ -67,6 +70,15 @@ module _ (from to weight rows : List ℕ) where
             total_first (edges_of from to [] weight) i (at rows) (omega (arith, length-edges_of from to [] weight))
             ∙ ap (λ (e : Edge). e.weight * (at rows e.to - at rows e.from) + total (drop (i + 1) (edges_of from to [] weight)) (at rows))
             (edge_at from to [] weight i h)
+
+  -- one turn of the loop, by what it read
+  pub summing-turn : (s : RowsSummable from to weight rows) (i f t w sum : ℕ)
+      → (i < length (zip (zip from to) weight)) × (◌≡◌ {A = (ℕ × ℕ) × ℕ} ((f, t), w) (get_or (zip (zip from to) weight) i ((f, t), w)))
+      → Summing from to weight rows i sum
+      → (w * (at rows t - at rows f) ≤ max_weight * top_row) × Summing from to weight rows (i + 1) (sum + w * (at rows t - at rows f))
+  summing-turn s i f t w sum p l =
+      let e = triple-at from to weight s.ends.to_long s.weight_long i f t w p in
+      rw (e.1, e.2, e.3) (share-low s i e.0, summing-more s i e.0 sum l)
 
   pub summing-all : (i sum : ℕ) → length from ≤ i → Summing from to weight rows i sum → sum ≡ total (edges_of from to [] weight) (at rows)
   summing-all i sum h p = omega (arith, p.whole, total-none (edges_of from to [] weight) i (at rows) (omega (arith, length-edges_of from to [] weight)))

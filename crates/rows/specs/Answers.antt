@@ -1,21 +1,19 @@
 -- What is found for edges, and what a call that hands it out answers and leaves in a buffer.
-use Rattle.std.specs.Prelude.{◌≡◌, cond, List, [], ◌∷◌, ◌++◌, ℕ, leb, length, take, drop}
-use Rattle.std.proofs.Math.Option.{Option, none, some}
+use Rattle.std.specs.Prelude.{◌≡◌, cond, List, [], ◌∷◌, ◌++◌, ℕ, leb, length, take, drop, Option, Some, None, Result}
 use Rattle.graph.specs.declared.Edge.{Edge}
 use Rattle.graph.specs.Rows.{at, total, Best}
 use Rattle.graph.specs.Search.{rows_of}
+use Rattle.outcome.specs.declared.Refusal.{Refusal}
 use Rattle.outcome.specs.declared.Refusal.TheVariants.{Loop, ShortBuffer}
-use Rattle.outcome.specs.Refusal.{Outcome, done, refused, numbers_of, refusal_in}
-use Rattle.rows.specs.declared.types.RowsAnswer.{RowsAnswer}
-use Rattle.rows.specs.declared.types.RowsAnswer.TheVariants.{Done, Refused}
+use Rattle.outcome.specs.Refusal.{Outcome, done, refused, numbers_of, refusal_in, answered, bare}
 use Rattle.acyclic.specs.Loops.{lowest_on_loop}
 
 -- ---- rows of edges
 
 -- refused where there is a lowest step on a loop (refusal 11), else the rows
 abbrev pub unless_loop : Option ℕ → List ℕ → Outcome (List ℕ)
-unless_loop none rows = done rows
-unless_loop (some s) rows = refused (Loop s)
+unless_loop None rows = done rows
+unless_loop (Some s) rows = refused (Loop s)
 
 unfoldable pub rows_found : ℕ → List Edge → Outcome (List ℕ)
 rows_found n edges = unless_loop (lowest_on_loop n edges) (rows_of n edges)
@@ -45,9 +43,8 @@ rows_end (done rows) old =
     (record { numbers = numbers_of ShortBuffer; rows = old })
 
 -- what the code answers, in numbers
-abbrev pub rows_numbers : RowsAnswer → List ℕ
-rows_numbers Done = 0 ∷ []
-rows_numbers (Refused r) = numbers_of r
+abbrev pub rows_numbers : Result Unit Refusal → List ℕ
+rows_numbers r = answered bare r
 
 -- ---- demand 3
 

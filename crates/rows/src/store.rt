@@ -1,25 +1,19 @@
-// Rows handed out: an outcome becomes an answer and the content of a lent buffer.
-ghost use Rattle.rows.specs.Placed.{held_rows, RowsStorable, RowsHandedOut};
+// Rows handed out: what was found becomes the content of a lent buffer.
+ghost use Rattle.outcome.specs.Refusal.{done};
+ghost use Rattle.rows.specs.Placed.{RowsHandedOut};
 
-use crate::types::{Row, RowsAnswer, RowsFound};
+use crate::types::{Row, RowsFound};
 use buffers::store_u16;
-use outcome::{Refusal, Verdict};
+use outcome::Refusal;
 
-// The answer of a call that found an outcome for n steps, and its rows in the buffer.
-pub fn hand_out(found: RowsFound, n: usize, out: &mut [Row]) -> RowsAnswer
-    requires { RowsStorable n found }
-    ensures { RowsHandedOut (held_rows n found) out.old out.new result }
+// The rows that were found in the buffer, or no change where it is too short.
+pub fn hand_out(found: &RowsFound, out: &mut [Row]) -> Result<(), Refusal>
+    ensures { RowsHandedOut (done found.now.rows.items) out.old out.new result }
 {
-    let verdict = found.verdict;
-    match verdict {
-        Verdict::Refused(f) => RowsAnswer::Refused(f),
-        Verdict::Accepted => {
-            if out.len() < n {
-                return RowsAnswer::Refused(Refusal::ShortBuffer);
-            }
-            let rows = found.rows;
-            store_u16(&rows, n, out);
-            RowsAnswer::Done
-        }
+    let n = found.rows.len();
+    if out.len() < n {
+        return Err(Refusal::ShortBuffer);
     }
+    store_u16(&found.rows, n, out);
+    Ok(())
 }

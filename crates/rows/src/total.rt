@@ -10,9 +10,8 @@ pub fn total_rows(from: &[usize], to: &[usize], weight: &[usize], rows: &[usize]
     ensures { result ≡ total (edges_of from.now to.now [] weight.now) (at rows.now) }
 {
     let mut sum = 0;
-    for i in 0..from.len() {
-        let length = rows[to[i]] - rows[from[i]];
-        sum += weight[i] * length;
+    for ((&tail, &head), &w) in from.iter().zip(to).zip(weight) {
+        sum += w * (rows[head] - rows[tail]);
     }
     sum
 }

@@ -1,21 +1,16 @@
-// What is found for edges: rows and their total, or why there are none.
-use outcome::{Refusal, Verdict};
+// What is found for edges: rows and their total.
+ghost use Rattle.rows.specs.Limits.{RowsLow};
+
+use arrayvec::ArrayVec;
 use table::limits::MAX_STEPS;
 
 // A row in a buffer that is lent.
 pub type Row = u16;
 
-// Rows are in the buffer, or why they are not.
-#[derive(Drop)]
-pub enum RowsAnswer {
-    Done,
-    Refused(Refusal),
-}
-
-// The rows, one a step, and their total, or why there are none.
+// The rows, one a step, and their total. No row is above the bound, so that each fits a lent buffer.
 #[derive(Drop)]
 pub struct RowsFound {
-    pub verdict: Verdict,
-    pub rows: [usize; MAX_STEPS],
+    pub rows: ArrayVec<usize, MAX_STEPS>,
     pub total: usize,
+    ghost low: { RowsLow rows.items },
 }

@@ -1,14 +1,14 @@
 -- The network that is built in flat lists is the auxiliary one, and meets what the solver asks for.
 use mathlib.Core.Path.{◌≡◌, sym, ap, ◌∙◌}
-use mathlib.Core.List.{List, ◌++◌}
-use Prim.Native.Nat.{ℕ, ◌+◌, ◌*◌, ◌-◌, ◌≤◌, ◌<◌}
+use mathlib.Core.List.{List, [], ◌++◌}
+use Prim.Native.Nat.{ℕ, ◌+◌, ◌-◌, ◌≤◌, ◌<◌}
 use native.Mathlib.Nat.{zero-add}
 use native.Mathlib.Decide.{dec_lt}
 use native.Mathlib.Omega.{arith}
-use lib.ListN.{length, take, replicate, length-append, length-replicate, get_or-eq_default}
-use lib.Seq.{get_or-take, length-take-le, take-take}
+use lib.ListN.{length, take, length-append, get_or-eq_default}
+use lib.Seq.{get_or-take, take-take}
 use Rattle.graph.specs.declared.Edge.{Edge}
-use Rattle.graph.specs.Rows.{at, Best}
+use Rattle.graph.specs.Rows.{at, Best, Within}
 use Rattle.relaxation.specs.Limits.{gap_limit, row_limit}
 use Rattle.relaxation.specs.Network.{edges_of, Network, Bounded}
 use Rattle.relaxation.proofs.EdgesLaws.{length-edges_of, edge_at}
@@ -16,13 +16,15 @@ use Rattle.buffers.proofs.SumLaws.{sum_low}
 use Rattle.spacing.specs.Limits.{max_xs, max_nodes, max_links, cost_limit}
 use Rattle.spacing.specs.Coordinates.{Costed, Among, BestX}
 use Rattle.spacing.specs.Auxiliary.{pull_edges, aux, aux_nodes}
-use Rattle.spacing.specs.Flat.{costed_of, besides, first_edges, EdgesRoom, Extends, Ordered, Priced, Spaceable, FoundX, NetworkSolved}
+use Rattle.flatten.specs.declared.EdgeLists.{EdgeLists}
+use Rattle.flatten.specs.Flat.{flat_edges}
+use Rattle.spacing.specs.Flat.{costed_of, besides, Ordered, Priced, Spaceable, FoundX}
 use Rattle.spacing.proofs.EdgeListLaws.{Every}
 use Rattle.spacing.proofs.AuxiliaryLaws.{aux-every, aux-within, lifted, lifted-low, lifted-rows}
 use Rattle.spacing.proofs.BestLaws.{best_x}
 use Rattle.spacing.proofs.TrialLaws.{best-is-xs_of}
 use Rattle.spacing.proofs.BoundLaws.{x_below}
-use Rattle.spacing.proofs.ExtendLaws.{extends-none, room-left, length-costed_of, costed-at, pulls-count, besides-few}
+use Rattle.spacing.proofs.ExtendLaws.{length-costed_of, costed-at, pulls-count, besides-few}
 use Rattle.spacing.proofs.OrderLaws.{besides-order}
 use Rattle.spacing.proofs.SeatLaws.{seats, seats-long, seats-low, seats-spaced}
 
@@ -51,6 +53,11 @@ module _ (o : List (List ℕ)) (row order upper lower cost : List ℕ) (h : Orde
 
   nodes : aux_nodes n costed ≡ n + length upper
   nodes = ap (λ (k : ℕ). n + k) (length-costed_of upper lower cost)
+
+  pub built-within : Within (n + length upper) (aux n o costed)
+  built-within j b =
+      let k = aux-within n o costed among j b in
+      (omega (arith, k.0, nodes), omega (arith, k.1, nodes))
 
   low-gaps : Every (aux n o costed) (λ e. e.gap ≤ 1)
   low-gaps = aux-every (λ e. e.gap ≤ 1) n o costed (λ r i b k. omega arith) (λ k b. (omega arith, omega arith))
@@ -110,7 +117,11 @@ module _ (o : List (List ℕ)) (row order upper lower cost : List ℕ) (h : Orde
           low = λ v b. omega (arith, lifted-low n (seats o row n) costed (seats-low o row order h) v);
         }
 
--- ---- what is written to the four arrays
+-- ---- what is written
+
+-- two parts behind none
+pub written : (x y : List Edge) {none first all : List Edge} → none ≡ [] → first ≡ none ++ x → all ≡ first ++ y → all ≡ x ++ y
+written x y {none} {first} {all} e f g = g ∙ ap (λ (l : List Edge). l ++ y) (f ∙ ap (λ (l : List Edge). l ++ x) e)
 
 module _ (order row upper lower cost : List ℕ) (d : Spaceable order row upper lower cost) where
   abbrev edges : List Edge
@@ -136,112 +147,65 @@ module _ (order row upper lower cost : List ℕ) (d : Spaceable order row upper 
       ap (λ (l : List Edge). l ++ pull_edges (length order) (costed_of upper lower cost))
       (besides-order row order o h.flat (λ r i b k. h.rows r i b k ∙ sym (zero-add r)))
 
-  module _ {from₀ to₀ gap₀ weight₀ : List ℕ} {m : ℕ} {from to gap weight : List ℕ}
-      (e : Extends 0 from₀ to₀ gap₀ weight₀ edges m from to gap weight) where
-    parts_same : edges_of (take m from) (take m to) (take m gap) (take m weight) ≡ edges
-    unfolding first_edges edges_of
-    parts_same = e.same
+  module _ (l : EdgeLists max_links) (e : flat_edges l ≡ edges) where
+    count : length l.from.items ≡ length edges
+    count = sym (length-edges_of l.from.items l.to.items l.gap.items l.weight.items) ∙ ap length e
 
-    parts-few : m ≤ max_links
-    parts-few = omega (arith, e.count, edges_few)
+    short : length l.from.items ≤ max_links
+    short = omega (arith, count, edges_few)
 
-    module _ (room : EdgesRoom max_links from₀ to₀ gap₀ weight₀) where
-      pub fits-from : m ≤ length from
-      fits-from = omega (arith, parts-few, e.from_long, room.from_room)
+    is : flat_edges l ≡ aux (length order) d.o (costed_of upper lower cost)
+    is = e ∙ edges-aux d.o d.ordered
 
-      pub part-from : length (take m from) ≡ m
-      part-from = length-take-le m from fits-from
+    pub links-within : Within (length order + length upper) (flat_edges l)
+    links-within = rw is (built-within d.o row order upper lower cost d.ordered d.priced d.few)
 
-      pub fits-to : m ≤ length to
-      fits-to = omega (arith, parts-few, e.to_long, room.to_room)
+    pub links-network : Network l.from.items l.to.items l.gap.items l.weight.items (length order + length upper)
+    links-network =
+        built-network d.o row order upper lower cost d.ordered d.priced d.few l.from.items l.to.items l.gap.items l.weight.items
+        l.even.to_long l.even.gap_long l.even.weight_long short is
 
-      pub part-to : length (take m to) ≡ m
-      part-to = length-take-le m to fits-to
+    pub links-bounded : Bounded l.from.items l.to.items l.gap.items (length order + length upper) row_limit
+    links-bounded =
+        built-bounded d.o row order upper lower cost d.ordered d.priced d.few l.from.items l.to.items l.gap.items l.weight.items
+        l.even.to_long l.even.gap_long l.even.weight_long short is
 
-      pub fits-gap : m ≤ length gap
-      fits-gap = omega (arith, parts-few, e.gap_long, room.gap_room)
+    pub links-sizes : (length order + length upper ≤ max_nodes) × (length l.from.items ≤ max_links)
+    links-sizes = (omega (arith, d.few, d.priced.few), short)
 
-      pub part-gap : length (take m gap) ≡ m
-      part-gap = length-take-le m gap fits-gap
+    -- The solver's rows of the network, at the points, are the best x.
+    pub found-x : (xs : List ℕ) → Best (length order + length upper) (flat_edges l) (take (length order + length upper) xs) → length xs ≡ max_nodes
+        → FoundX order row upper lower cost xs
+    found-x xs solved-rows long =
+        record {
+          best = best;
+          is = λ o h. best-is-xs_of (length order) o costed (among o h) (take (length order) xs) (best o h);
+          low = λ p b.
+              omega (
+                arith,
+                get_or-take (length order) xs p 0 b,
+                x_below (length order) d.o costed (among d.o d.ordered) (take (length order) xs) (best d.o d.ordered) p b,
+              );
+          long = long;
+        }
+      where
+        costed : List Costed
+        costed = costed_of upper lower cost
 
-      pub fits-weight : m ≤ length weight
-      fits-weight = omega (arith, parts-few, e.weight_long, room.weight_room)
+        -- the rows of all nodes, of which the first are those of the points
+        rows : List ℕ
+        rows = take (aux_nodes (length order) costed) xs
 
-      pub part-weight : length (take m weight) ≡ m
-      part-weight = length-take-le m weight fits-weight
+        front : take (length order) rows ≡ take (length order) xs
+        front = take-take (length order) (aux_nodes (length order) costed) xs (omega arith)
 
-      short : length (take m from) ≤ max_links
-      short = omega (arith, part-from, parts-few)
+        among : (o : List (List ℕ)) → Ordered o row order → Among (length order) o costed
+        among o h = drawn-among o row order upper lower cost h d.priced
 
-      is : edges_of (take m from) (take m to) (take m gap) (take m weight) ≡ aux (length order) d.o (costed_of upper lower cost)
-      is = parts_same ∙ edges-aux d.o d.ordered
+        solved : (o : List (List ℕ)) → Ordered o row order → Best (aux_nodes (length order) costed) (aux (length order) o costed) rows
+        solved o h =
+            let n : aux_nodes (length order) costed ≡ length order + length upper = ap (λ (k : ℕ). length order + k) (length-costed_of upper lower cost) in
+            rw n (rw (e ∙ edges-aux o h) at solved-rows)
 
-      pub parts-network : Network (take m from) (take m to) (take m gap) (take m weight) (length order + length upper)
-      parts-network =
-          built-network d.o row order upper lower cost d.ordered d.priced d.few (take m from) (take m to) (take m gap) (take m weight)
-          (part-to ∙ sym part-from) (part-gap ∙ sym part-from) (part-weight ∙ sym part-from) short is
-
-      pub parts-bounded : Bounded (take m from) (take m to) (take m gap) (length order + length upper) row_limit
-      parts-bounded =
-          built-bounded d.o row order upper lower cost d.ordered d.priced d.few (take m from) (take m to) (take m gap) (take m weight)
-          (part-to ∙ sym part-from) (part-gap ∙ sym part-from) (part-weight ∙ sym part-from) short is
-
-      pub parts-sizes : (length order + length upper ≤ max_nodes) × (length (take m from) ≤ max_links)
-      parts-sizes = (omega (arith, d.few, d.priced.few), short)
-
-      -- The solver's rows of the network, at the points, are the best x.
-      pub found-x : (xs : List ℕ) → NetworkSolved (length order + length upper) (take m from) (take m to) (take m gap) (take m weight) xs
-          → FoundX order row upper lower cost xs
-      found-x xs s =
-          record {
-            best = best;
-            is = λ o h. best-is-xs_of (length order) o costed (among o h) (take (length order) xs) (best o h);
-            low = λ p b.
-                omega (
-                  arith,
-                  get_or-take (length order) xs p 0 b,
-                  x_below (length order) d.o costed (among d.o d.ordered) (take (length order) xs) (best d.o d.ordered) p b,
-                );
-            long = s.long;
-          }
-        where
-          costed : List Costed
-          costed = costed_of upper lower cost
-
-          -- the rows of all nodes, of which the first are those of the points
-          rows : List ℕ
-          rows = take (aux_nodes (length order) costed) xs
-
-          front : take (length order) rows ≡ take (length order) xs
-          front = take-take (length order) (aux_nodes (length order) costed) xs (omega arith)
-
-          among : (o : List (List ℕ)) → Ordered o row order → Among (length order) o costed
-          among o h = drawn-among o row order upper lower cost h d.priced
-
-          solved : (o : List (List ℕ)) → Ordered o row order → Best (aux_nodes (length order) costed) (aux (length order) o costed) rows
-          solved o h =
-              let n : aux_nodes (length order) costed ≡ length order + length upper = ap (λ (k : ℕ). length order + k) (length-costed_of upper lower cost) in
-              rw n (rw (parts_same ∙ edges-aux o h) at s.best)
-
-          best : (o : List (List ℕ)) → Ordered o row order → BestX (length order) o costed (take (length order) xs)
-          best o h = rw front at (best_x (length order) o costed (among o h) rows (solved o h))
-
--- ---- room for them
-
-abbrev blank : List ℕ
-blank = replicate max_links 0
-
-pub blank-room : EdgesRoom max_links blank blank blank blank
-blank-room = record { from_room = all; to_room = all; gap_room = all; weight_room = all }
-  where
-    all : max_links ≤ length blank
-    all = omega (arith, length-replicate {A = ℕ} max_links 0)
-
-module _ (order row upper lower cost : List ℕ) (d : Spaceable order row upper lower cost) where
-  pub points-room : EdgesRoom (length order) blank blank blank blank
-  points-room = room-left max_links (length order) (extends-none {m = 0}) blank-room (omega (arith, d.few))
-
-  pub pulls-room : {k : ℕ} {from to gap weight : List ℕ} → Extends 0 blank blank blank blank (besides row order (length order - 1)) k from to gap weight
-      → EdgesRoom (k + 2 * length upper) from to gap weight
-  pulls-room {k} e =
-      room-left max_links (k + 2 * length upper) e blank-room (omega (arith, e.count, besides-few row order (length order - 1), d.few, d.priced.few))
+        best : (o : List (List ℕ)) → Ordered o row order → BestX (length order) o costed (take (length order) xs)
+        best o h = rw front at (best_x (length order) o costed (among o h) rows (solved o h))

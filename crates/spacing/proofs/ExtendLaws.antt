@@ -7,77 +7,15 @@ use native.Mathlib.Nat.{not-suc-le-zero, le_of_suc-le-suc, add-zero}
 use native.Mathlib.Numerals.{add-one}
 use native.Mathlib.Omega.{arith}
 use lib.Dec.{eqb}
-use lib.ListN.{length, get_or, take, set, length-set, length-append}
-use lib.Seq.{take-suc, take-suc-set, take_all, length-take-le}
+use lib.ListN.{length, get_or, take, drop, length-append}
+use lib.Seq.{take-suc, take_all, length-take-le}
 use borrow.Author.Tests.{eq-eqb, ne_eqb}
 use Rattle.graph.specs.declared.Edge.{Edge}
 use Rattle.graph.specs.Rows.{at}
-use Rattle.relaxation.specs.Network.{edges_of}
 use Rattle.buffers.proofs.ListLaws.{at_tail}
 use Rattle.spacing.specs.Coordinates.{Costed, no_costed}
 use Rattle.spacing.specs.Auxiliary.{beside, pull, pull_edges}
-use Rattle.spacing.specs.Flat.{costed_of, beside_if, besides, first_edges, EdgesRoom, Extends}
-
-edges-snoc : (from to gap weight : List ℕ) (a b g w : ℕ) → length to ≡ length from → length gap ≡ length from → length weight ≡ length from
-    → edges_of (from ++ a ∷ []) (to ++ b ∷ []) (gap ++ g ∷ []) (weight ++ w ∷ [])
-    ≡ edges_of from to gap weight ++ record { from = a; to = b; gap = g; weight = w } ∷ []
-unfolding edges_of
-edges-snoc [] [] [] [] a b g w p q r = refl
-edges-snoc [] (y ∷ to) gap weight a b g w p q r = absurd (omega arith)
-edges-snoc [] [] (z ∷ gap) weight a b g w p q r = absurd (omega arith)
-edges-snoc [] [] [] (v ∷ weight) a b g w p q r = absurd (omega arith)
-edges-snoc (x ∷ from) [] gap weight a b g w p q r = absurd (omega arith)
-edges-snoc (x ∷ from) (y ∷ to) [] weight a b g w p q r = absurd (omega arith)
-edges-snoc (x ∷ from) (y ∷ to) (z ∷ gap) [] a b g w p q r = absurd (omega arith)
-edges-snoc (x ∷ from) (y ∷ to) (z ∷ gap) (v ∷ weight) a b g w p q r =
-    ap (λ (l : List Edge). record { from = x; to = y; gap = z; weight = v } ∷ l)
-    (edges-snoc from to gap weight a b g w (omega arith) (omega arith) (omega arith))
-
-module _ {m : ℕ} {from to gap weight : List ℕ} where
-  pub extends-none : Extends m from to gap weight [] m from to gap weight
-  extends-none =
-      record { from_long = refl; to_long = refl; gap_long = refl; weight_long = refl; count = omega arith; same = sym (append-nil (first_edges m from to gap weight)) }
-
-  -- one edge stored in the entries at m
-  pub extends-one : (a b g w : ℕ) → EdgesRoom (m + 1) from to gap weight
-      → Extends m from to gap weight (record { from = a; to = b; gap = g; weight = w } ∷ []) (m + 1) (set from m a) (set to m b) (set gap m g) (set weight m w)
-  unfolding first_edges
-  extends-one a b g w room =
-      record {
-        from_long = length-set from m a;
-        to_long = length-set to m b;
-        gap_long = length-set gap m g;
-        weight_long = length-set weight m w;
-        count = refl;
-        same =
-            rw (add-one m, take-suc-set from m a (omega arith), take-suc-set to m b (omega arith), take-suc-set gap m g (omega arith), take-suc-set weight m w (omega arith))
-            (edges-snoc (take m from) (take m to) (take m gap) (take m weight) a b g w
-            (part to (omega arith) ∙ sym (part from (omega arith)))
-            (part gap (omega arith) ∙ sym (part from (omega arith)))
-            (part weight (omega arith) ∙ sym (part from (omega arith))));
-      }
-    where
-      part : (l : List ℕ) → m + 1 ≤ length l → length (take m l) ≡ m
-      part l h = length-take-le m l (omega arith)
-
-  -- edges behind edges
-  module _ {es fs : List Edge} {m₁ m₂ : ℕ} {from₁ to₁ gap₁ weight₁ from₂ to₂ gap₂ weight₂ : List ℕ} where
-    pub extends-join : Extends m from to gap weight es m₁ from₁ to₁ gap₁ weight₁ → Extends m₁ from₁ to₁ gap₁ weight₁ fs m₂ from₂ to₂ gap₂ weight₂
-        → Extends m from to gap weight (es ++ fs) m₂ from₂ to₂ gap₂ weight₂
-    extends-join p q =
-        record {
-          from_long = q.from_long ∙ p.from_long;
-          to_long = q.to_long ∙ p.to_long;
-          gap_long = q.gap_long ∙ p.gap_long;
-          weight_long = q.weight_long ∙ p.weight_long;
-          count = omega (arith, length-append es fs);
-          same = q.same ∙ ap (λ (l : List Edge). l ++ fs) p.same ∙ append_assoc (first_edges m from to gap weight) es fs;
-        }
-
--- there is room for more
-module _ {m m₁ : ℕ} {es : List Edge} {from to gap weight from₁ to₁ gap₁ weight₁ : List ℕ} where
-  pub room-left : (k l : ℕ) → Extends m from to gap weight es m₁ from₁ to₁ gap₁ weight₁ → EdgesRoom k from to gap weight → l ≤ k → EdgesRoom l from₁ to₁ gap₁ weight₁
-  room-left k l p room h = record { from_room = omega arith; to_room = omega arith; gap_room = omega arith; weight_room = omega arith }
+use Rattle.spacing.specs.Flat.{costed_of, beside_if, besides}
 
 -- ---- the edge of two points that follow each other
 
@@ -143,54 +81,93 @@ pulls-count a (s ∷ ps) = omega (arith, pulls-count (suc a) ps)
 
 -- ---- the two loops: edges are written one behind the other
 
--- the edges of the first i + 1 points are written
-pub record Siding (row order from₀ to₀ gap₀ weight₀ : List ℕ) (i m : ℕ) (from to gap weight : List ℕ) : Type 0 where
-  pub before : i ≤ length order - 1
-  pub written : Extends 0 from₀ to₀ gap₀ weight₀ (besides row order i) m from to gap weight
+-- the edges of the points before the rest are written
+pub record Siding (row order rest : List ℕ) (size : ℕ) (before edges : List Edge) : Type 0 where
+  pub pairs : size ≡ 2
+  pub inside : length rest ≤ length order
+  pub left : rest ≡ drop (length order - length rest) order
+  pub some : length order - length rest ≤ length order - 1
+  pub written : edges ≡ before ++ besides row order (length order - length rest)
 
-module _ {row order from₀ to₀ gap₀ weight₀ : List ℕ} where
-  pub siding-start : Siding row order from₀ to₀ gap₀ weight₀ 0 0 from₀ to₀ gap₀ weight₀
+module _ {row order : List ℕ} {before : List Edge} where
+  pub siding-start : Siding row order order 2 before before
   unfolding besides
-  siding-start = record { before = omega arith; written = extends-none }
+  siding-start =
+      let none : length order - length order ≡ 0 = omega arith in
+      record { pairs = refl; inside = omega arith; left = rw none; some = omega arith; written = rw none (sym (append-nil before)) }
 
-  module _ {i m : ℕ} {from to gap weight : List ℕ} (h : Siding row order from₀ to₀ gap₀ weight₀ i m from to gap weight) where
-    pub siding-room : EdgesRoom (length order) from₀ to₀ gap₀ weight₀ → i + 1 < length order → EdgesRoom (m + 1) from to gap weight
-    siding-room room l = room-left (length order) (m + 1) h.written room (omega (arith, besides-few row order i, h.written.count))
+  module _ {rest : List ℕ} {size : ℕ} {edges : List Edge} (s : Siding row order rest size before edges) where
+    pub siding-room : (most : ℕ) → 2 ≤ length rest → length before + length order ≤ most → length edges < most
+    siding-room most h room =
+        let i = length order - length rest in
+        rw s.written (omega (arith, length-append before (besides row order i), besides-few row order i))
 
-    pub siding-end : length order ≤ i + 1 → Extends 0 from₀ to₀ gap₀ weight₀ (besides row order (length order - 1)) m from to gap weight
-    siding-end l =
-        let b = h.before in
-        let e : i ≡ length order - 1 = omega arith in
-        rw e at h.written
+    pub siding-end : length rest < size → edges ≡ before ++ besides row order (length order - 1)
+    siding-end h =
+        let e : length order - length rest ≡ length order - 1 = omega (arith, s.pairs, s.some) in
+        rw e at s.written
 
-    module _ {m' : ℕ} {from' to' gap' weight' : List ℕ} where
-      pub siding-turn : i + 1 < length order
-          → Extends m from to gap weight (beside_if row (at order i) (at order (i + 1))) m' from' to' gap' weight'
-          → Siding row order from₀ to₀ gap₀ weight₀ (i + 1) m' from' to' gap' weight'
-      siding-turn l e = record { before = omega arith; written = rw (besides-more row order i) (extends-join h.written e) }
+    -- what a turn over the pairs reads: two points that follow each other, and what is left then
+    module _ {rest' : List ℕ} (pair : List ℕ)
+        (w : (length rest' + 1 ≡ length rest) × (rest' ≡ drop (length order - length rest') order) × (size ≤ length rest)
+        × ((k d : ℕ) → k < size → get_or pair k d ≡ get_or order (length order - length rest + k) d)) where
+      siding-first : at pair 0 ≡ at order (length order - length rest)
+      siding-first = w.3 0 0 (omega (arith, s.pairs)) ∙ ap (λ (k : ℕ). at order k) (omega arith)
+
+      siding-second : at pair 1 ≡ at order (length order - length rest + 1)
+      siding-second = w.3 1 0 (omega (arith, s.pairs))
+
+      -- the edge of a pair is written, where there is one
+      pub siding-turn : {size' : ℕ} {edges' : List Edge} → size' ≡ size → edges' ≡ edges ++ beside_if row (at pair 0) (at pair 1) → Siding row order rest' size' before edges'
+      siding-turn same e =
+          let i = length order - length rest in
+          let next : length order - length rest' ≡ i + 1 = omega (arith, s.inside, w.0, w.2, s.pairs) in
+          record {
+            pairs = same ∙ s.pairs;
+            inside = omega (arith, s.inside, w.0);
+            left = w.1;
+            some = omega (arith, s.pairs, next, w.2);
+            written =
+                rw (next, besides-more row order i)
+                (e ∙ ap (λ (l : List Edge). l ++ beside_if row (at pair 0) (at pair 1)) s.written ∙ append_assoc before (besides row order i) (beside_if row (at pair 0) (at pair 1))
+                ∙ ap (λ (l : List Edge). before ++ (besides row order i ++ l)) (rw (siding-first, siding-second) refl));
+          }
 
 -- the edges of the first k segments are written
-pub record Pulling (n : ℕ) (upper lower cost : List ℕ) (m₀ : ℕ) (from₀ to₀ gap₀ weight₀ : List ℕ) (k m : ℕ) (from to gap weight : List ℕ) : Type 0 where
-  pub before : k ≤ length upper
-  pub written : Extends m₀ from₀ to₀ gap₀ weight₀ (pull_edges n (take k (costed_of upper lower cost))) m from to gap weight
+pub record Pulling (n : ℕ) (upper lower cost : List ℕ) (before : List Edge) (k : ℕ) (edges : List Edge) : Type 0 where
+  pub some : k ≤ length upper
+  pub written : edges ≡ before ++ pull_edges n (take k (costed_of upper lower cost))
 
-module _ {n : ℕ} {upper lower cost : List ℕ} {m₀ : ℕ} {from₀ to₀ gap₀ weight₀ : List ℕ} where
-  pub pulling-start : Pulling n upper lower cost m₀ from₀ to₀ gap₀ weight₀ 0 m₀ from₀ to₀ gap₀ weight₀
+module _ {n : ℕ} {upper lower cost : List ℕ} {before : List Edge} where
+  pub pulling-start : Pulling n upper lower cost before 0 before
   unfolding pull_edges
-  pulling-start = record { before = omega arith; written = extends-none }
+  pulling-start = record { some = omega arith; written = sym (append-nil before) }
 
-  module _ {k m : ℕ} {from to gap weight : List ℕ} (h : Pulling n upper lower cost m₀ from₀ to₀ gap₀ weight₀ k m from to gap weight) where
-    pub pulling-room : EdgesRoom (m₀ + 2 * length upper) from₀ to₀ gap₀ weight₀ → k < length upper → EdgesRoom (m + 2) from to gap weight
-    pulling-room room l =
+  module _ {k : ℕ} {edges : List Edge} (h : Pulling n upper lower cost before k edges) where
+    pub pulling-count : length edges ≡ length before + 2 * k
+    pulling-count =
         let ps = costed_of upper lower cost in
-        room-left (m₀ + 2 * length upper) (m + 2) h.written room
-        (omega (arith, h.written.count, pulls-count n (take k ps), length-take-le k ps (omega (arith, length-costed_of upper lower cost))))
+        omega (
+          arith,
+          ap length h.written,
+          length-append before (pull_edges n (take k ps)),
+          pulls-count n (take k ps),
+          length-take-le k ps (omega (arith, h.some, length-costed_of upper lower cost)),
+        )
 
-    pub pulling-end : length upper ≤ k → Extends m₀ from₀ to₀ gap₀ weight₀ (pull_edges n (costed_of upper lower cost)) m from to gap weight
+    pub pulling-end : length upper ≤ k → edges ≡ before ++ pull_edges n (costed_of upper lower cost)
     pulling-end l = rw (take_all k (costed_of upper lower cost) (omega (arith, length-costed_of upper lower cost))) at h.written
 
-    module _ {m' : ℕ} {from' to' gap' weight' : List ℕ} where
-      pub pulling-turn : k < length upper
-          → Extends m from to gap weight (pull (n + k) (at upper k) (at cost k) ∷ pull (n + k) (at lower k) (at cost k) ∷ []) m' from' to' gap' weight'
-          → Pulling n upper lower cost m₀ from₀ to₀ gap₀ weight₀ (k + 1) m' from' to' gap' weight'
-      pulling-turn l e = record { before = omega arith; written = rw (pulls-more n upper lower cost k l) (extends-join h.written e) }
+    -- the two edges of one segment more
+    pub pulling-turn : {k' i u l c : ℕ} {edges₁ edges₂ : List Edge} → k' ≡ k + 1 → (k < length upper) × (i ≡ k) × (u ≡ at upper k) × (l ≡ at lower k) × (c ≡ at cost k)
+        → edges₁ ≡ edges ++ pull (n + i) u c ∷ [] → edges₂ ≡ edges₁ ++ pull (n + i) l c ∷ [] → Pulling n upper lower cost before k' edges₂
+    pulling-turn {k'} {i} {u} {l} {c} {edges₁} {edges₂} next t e f =
+        record {
+          some = omega (arith, t.0, next);
+          written =
+              rw (next, pulls-more n upper lower cost k t.0)
+              (f ∙ ap (λ (x : List Edge). x ++ pull (n + i) l c ∷ []) (e ∙ ap (λ (x : List Edge). x ++ pull (n + i) u c ∷ []) h.written)
+              ∙ append_assoc (before ++ pull_edges n (take k (costed_of upper lower cost))) (pull (n + i) u c ∷ []) (pull (n + i) l c ∷ [])
+              ∙ append_assoc before (pull_edges n (take k (costed_of upper lower cost))) (pull (n + i) u c ∷ pull (n + i) l c ∷ [])
+              ∙ rw (t.1, t.2, t.3, t.4) refl);
+        }

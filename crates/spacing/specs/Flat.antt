@@ -1,10 +1,9 @@
 -- The auxiliary network in flat lists, as the code builds it.
-use Rattle.std.specs.Prelude.{◌≡◌, cond, ℕ, zero, suc, ◌+◌, ◌≤◌, ◌<◌, eqb, length, take}
+use Rattle.std.specs.Prelude.{◌≡◌, cond, ℕ, zero, suc, ◌≤◌, ◌<◌, eqb, length, take}
 use mathlib.Core.List.{List, [], ◌∷◌, ◌++◌, flatten, tail}
 use Rattle.graph.specs.declared.Edge.{Edge}
-use Rattle.graph.specs.Rows.{at, Best}
+use Rattle.graph.specs.Rows.{at}
 use Rattle.buffers.specs.Lists.{Below, occurs}
-use Rattle.relaxation.specs.Network.{edges_of}
 use Rattle.spacing.specs.Limits.{max_xs, max_segments, max_nodes, cost_limit}
 use Rattle.spacing.specs.Coordinates.{Costed, row_in, BestX}
 use Rattle.spacing.specs.Auxiliary.{beside}
@@ -23,26 +22,6 @@ beside_if row p q = cond (eqb (at row p) (at row q)) (beside p q ∷ []) []
 unfoldable pub besides : List ℕ → List ℕ → ℕ → List Edge
 besides row order zero = []
 besides row order (suc i) = besides row order i ++ beside_if row (at order i) (at order (suc i))
-
--- the edges that the first m entries of four lists write down
-unfoldable pub first_edges : ℕ → List ℕ → List ℕ → List ℕ → List ℕ → List Edge
-first_edges m from to gap weight = edges_of (take m from) (take m to) (take m gap) (take m weight)
-
--- four lists have room for m edges
-pub record EdgesRoom (m : ℕ) (from to gap weight : List ℕ) : Type 0 where
-  pub from_room : m ≤ length from
-  pub to_room : m ≤ length to
-  pub gap_room : m ≤ length gap
-  pub weight_room : m ≤ length weight
-
--- behind the first m edges of four lists these were written; no list has another length
-pub record Extends (m : ℕ) (from to gap weight : List ℕ) (edges : List Edge) (m' : ℕ) (from' to' gap' weight' : List ℕ) : Type 0 where
-  pub from_long : length from' ≡ length from
-  pub to_long : length to' ≡ length to
-  pub gap_long : length gap' ≡ length gap
-  pub weight_long : length weight' ≡ length weight
-  pub count : m' ≡ m + length edges
-  pub same : first_edges m' from' to' gap' weight' ≡ first_edges m from to gap weight ++ edges
 
 -- An order in one flat list, its rows one behind the other; `row` has the row of each point. No point stands twice in a row.
 pub record Ordered (o : List (List ℕ)) (row order : List ℕ) : Type 0 where
@@ -73,9 +52,4 @@ pub record FoundX (order row upper lower cost xs : List ℕ) : Type 0 where
   pub best : (o : List (List ℕ)) → Ordered o row order → BestX (length order) o (costed_of upper lower cost) (take (length order) xs)
   pub is : (o : List (List ℕ)) → Ordered o row order → xs_of (length order) o (costed_of upper lower cost) ≡ take (length order) xs
   pub low : (p : ℕ) → p < length order → at xs p < length order
-  pub long : length xs ≡ max_nodes
-
--- best rows of the edges in flat lists, in the first n entries of an array
-pub record NetworkSolved (n : ℕ) (from to gap weight xs : List ℕ) : Type 0 where
-  pub best : Best n (edges_of from to gap weight) (take n xs)
   pub long : length xs ≡ max_nodes

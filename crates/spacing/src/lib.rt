@@ -7,14 +7,13 @@
 pub mod limits;
 mod link;
 
-ghost use Rattle.std.specs.Prelude.{◌≤◌, length};
-ghost use Rattle.relaxation.specs.Network.{Network, Bounded};
-ghost use Rattle.relaxation.specs.Limits.{row_limit};
-ghost use Rattle.spacing.specs.Limits.{max_nodes, max_links};
-ghost use Rattle.spacing.specs.Flat.{Spaceable, FoundX, NetworkSolved};
+ghost use Rattle.spacing.specs.Flat.{Spaceable, FoundX};
 
 use crate::limits::{MAX_LINKS, MAX_NODES};
 use crate::link::{link_points, link_segments};
+use flatten::EdgeLists;
+use network::best_rows;
+use relaxation::net::Net;
 
 // The best x of the points of an order, one flat list of rows; `row` has the row of each point, the others the ends and the cost of each
 // segment. They are the first entries of the answer, one a point.
@@ -28,78 +27,14 @@ pub fn find_x(
     requires { Spaceable order.now row.now upper.now lower.now cost.now }
     ensures { FoundX order.now row.now upper.now lower.now cost.now result }
 {
-    let n = order.len();
-    let mut from = [0usize; MAX_LINKS];
-    let mut to = [0usize; MAX_LINKS];
-    let mut gap = [0usize; MAX_LINKS];
-    let mut weight = [0usize; MAX_LINKS];
-    let k = link_points(order, row, &mut from, &mut to, &mut gap, &mut weight);
-    let m = link_segments(
-        upper,
-        lower,
-        cost,
-        n,
-        &mut from,
-        &mut to,
-        &mut gap,
-        &mut weight,
-        k,
-    );
-    solve_links(
-        &from[..m],
-        &to[..m],
-        &gap[..m],
-        &weight[..m],
-        n + upper.len(),
-    )
-}
-
-// The best rows of a network that some rows keep. All but the rows is scratch of the solver.
-fn solve_links(
-    from: &[usize],
-    to: &[usize],
-    gap: &[usize],
-    weight: &[usize],
-    n: usize,
-) -> [usize; MAX_NODES]
-    requires network { Network from.now to.now gap.now weight.now n }
-    requires bounded { Bounded from.now to.now gap.now n row_limit }
-    requires n_le_max_nodes { (n ≤ max_nodes) × (length from.now ≤ max_links) }
-    ensures { NetworkSolved n from.now to.now gap.now weight.now result }
-{
-    let m = from.len();
+    let mut links = EdgeLists::<MAX_LINKS>::new();
+    link_points(order, row, &mut links);
+    link_segments(upper, lower, cost, order.len(), &mut links);
+    let net = Net {
+        arcs: links.arcs(order.len() + upper.len()),
+        weight: &links.weight,
+    };
     let mut y = [0usize; MAX_NODES];
-    let mut flow = [0usize; MAX_LINKS];
-    let mut rank = [0usize; MAX_NODES];
-    let mut parent = [0usize; MAX_NODES];
-    let mut capacity = [0usize; MAX_NODES];
-    let mut supply = [0usize; MAX_NODES];
-    let mut demand = [0usize; MAX_NODES];
-    let mut out_head = [0usize; MAX_NODES];
-    let mut out_next = [0usize; MAX_LINKS];
-    let mut in_head = [0usize; MAX_NODES];
-    let mut in_next = [0usize; MAX_LINKS];
-    let mut queue = [0usize; MAX_NODES];
-    let mut lowest = [0usize; MAX_NODES];
-    network::solve(
-        from,
-        to,
-        gap,
-        weight,
-        n,
-        &mut y,
-        &mut flow[..m],
-        &mut rank[..n],
-        &mut parent[..n],
-        &mut capacity[..n],
-        &mut supply[..n],
-        &mut demand[..n],
-        &mut out_head,
-        &mut out_next,
-        &mut in_head,
-        &mut in_next,
-        &mut queue,
-        &mut lowest[..n],
-    );
+    best_rows::<MAX_NODES, MAX_LINKS>(&net, &mut y);
     y
 }

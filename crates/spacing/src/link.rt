@@ -1,117 +1,62 @@
-// The edges of the auxiliary network, written one behind the other to four flat slices.
-ghost use Rattle.std.specs.Prelude.{◌≡◌, [], ◌∷◌, ◌+◌, ◌-◌, ◌*◌, ◌≤◌, ◌<◌, length};
-ghost use Rattle.graph.specs.Rows.{at};
-ghost use Rattle.spacing.specs.Limits.{max_xs};
+// The edges of the auxiliary network, written one behind the other.
+ghost use Rattle.std.specs.Prelude.{◌≡◌, ◌++◌, ◌+◌, ◌-◌, ◌*◌, ◌≤◌, ◌<◌, length};
+ghost use Rattle.spacing.specs.Limits.{max_xs, max_links};
 ghost use Rattle.spacing.specs.Auxiliary.{pull, pull_edges};
 ghost use Rattle.buffers.specs.Lists.{Below};
-ghost use Rattle.spacing.specs.Flat.{costed_of, beside_if, besides, EdgesRoom, Extends};
+ghost use Rattle.flatten.specs.Flat.{flat_edges};
+ghost use Rattle.spacing.specs.Flat.{costed_of, besides};
 
-// One edge behind the first m. Answers how many there are now.
-fn push_edge(
-    a: usize,
-    b: usize,
-    g: usize,
-    w: usize,
-    from: &mut [usize],
-    to: &mut [usize],
-    gap: &mut [usize],
-    weight: &mut [usize],
-    m: usize,
-) -> usize
-    requires { EdgesRoom (m + 1) from.old to.old gap.old weight.old }
-    ensures { Extends m from.old to.old gap.old weight.old (record { from = a; to = b; gap = g; weight = w } ∷ []) result from.new to.new gap.new weight.new }
-{
-    from[m] = a;
-    to[m] = b;
-    gap[m] = g;
-    weight[m] = w;
-    m + 1
-}
+use crate::limits::MAX_LINKS;
+use flatten::EdgeLists;
+use graph::Edge;
 
-// The edge from a point to its right neighbour: between points i and i + 1 of the order, if they stand in one row.
-fn link_pair(
-    order: &[u16],
-    row: &[usize],
-    i: usize,
-    from: &mut [usize],
-    to: &mut [usize],
-    gap: &mut [usize],
-    weight: &mut [usize],
-    m: usize,
-) -> usize
-    requires i_in_bounds { i + 1 < length order.now }
+// The edges between neighbours of all rows, each from a point to the one on its right.
+pub fn link_points(order: &[u16], row: &[usize], links: &mut EdgeLists<MAX_LINKS>)
     requires below { Below (length row.now) order.now }
-    requires edges_room { EdgesRoom (m + 1) from.old to.old gap.old weight.old }
-    ensures { Extends m from.old to.old gap.old weight.old (beside_if row.now (at order.now i) (at order.now (i + 1))) result from.new to.new gap.new weight.new }
+    requires room { length (flat_edges links.old) + length order.now ≤ max_links }
+    ensures { flat_edges links.new ≡ flat_edges links.old ++ besides row.now order.now (length order.now - 1) }
 {
-    let p = order[i] as usize;
-    let q = order[i + 1] as usize;
-    if row[p] == row[q] {
-        return push_edge(p, q, 1, 0, from, to, gap, weight, m);
+    for pair in order.windows(2) {
+        let p = pair[0] as usize;
+        let q = pair[1] as usize;
+        if row[p] == row[q] {
+            links.push(Edge {
+                from: p,
+                to: q,
+                gap: 1,
+                weight: 0,
+            });
+        }
     }
-    m
 }
 
-// The edges between neighbours of all rows, from the first entries on.
-pub fn link_points(
-    order: &[u16],
-    row: &[usize],
-    from: &mut [usize],
-    to: &mut [usize],
-    gap: &mut [usize],
-    weight: &mut [usize],
-) -> usize
-    requires below { Below (length row.now) order.now }
-    requires edges_room { EdgesRoom (length order.now) from.old to.old gap.old weight.old }
-    ensures { Extends 0 from.old to.old gap.old weight.old (besides row.now order.now (length order.now - 1)) result from.new to.new gap.new weight.new }
-{
-    let mut m = 0;
-    let mut i = 0;
-    while i + 1 < order.len() {
-        m = link_pair(order, row, i, from, to, gap, weight, m);
-        i += 1;
-    }
-    m
-}
-
-// The two edges of a segment, from its node a to its ends.
-fn link_segment(
-    a: usize,
-    u: usize,
-    l: usize,
-    c: usize,
-    from: &mut [usize],
-    to: &mut [usize],
-    gap: &mut [usize],
-    weight: &mut [usize],
-    m: usize,
-) -> usize
-    requires { EdgesRoom (m + 2) from.old to.old gap.old weight.old }
-    ensures { Extends m from.old to.old gap.old weight.old (pull a u c ∷ pull a l c ∷ []) result from.new to.new gap.new weight.new }
-{
-    let k = push_edge(a, u, 0, c, from, to, gap, weight, m);
-    push_edge(a, l, 0, c, from, to, gap, weight, k)
-}
-
-// The edges of all segments behind the first m, with the nodes of the segments numbered from n on.
+// The two edges of each segment, from its own node to its ends; the nodes of the segments are numbered from n on.
+// n is the number of points.
 pub fn link_segments(
     upper: &[usize],
     lower: &[usize],
     cost: &[usize],
     n: usize,
-    from: &mut [usize],
-    to: &mut [usize],
-    gap: &mut [usize],
-    weight: &mut [usize],
-    m: usize,
-) -> usize
-    requires lower_len { (length lower.now ≡ length upper.now) × (length cost.now ≡ length upper.now) × (n ≤ max_xs) }
-    requires edges_room { EdgesRoom (m + 2 * length upper.now) from.old to.old gap.old weight.old }
-    ensures { Extends m from.old to.old gap.old weight.old (pull_edges n (costed_of upper.now lower.now cost.now)) result from.new to.new gap.new weight.new }
+    links: &mut EdgeLists<MAX_LINKS>,
+)
+    requires long { (length lower.now ≡ length upper.now) × (length cost.now ≡ length upper.now) × (n ≤ max_xs) }
+    requires room { length (flat_edges links.old) + 2 * length upper.now ≤ max_links }
+    ensures { flat_edges links.new ≡ flat_edges links.old ++ pull_edges n (costed_of upper.now lower.now cost.now) }
 {
-    let mut c = m;
-    for k in 0..upper.len() {
-        c = link_segment(n + k, upper[k], lower[k], cost[k], from, to, gap, weight, c);
+    for (k, ((&u, &l), &c)) in upper.iter().zip(lower).zip(cost).enumerate() {
+        links.push(pulling(n + k, u, c));
+        links.push(pulling(n + k, l, c));
     }
-    c
+}
+
+// The edge from a segment's node to an end of it.
+fn pulling(node: usize, end: usize, cost: usize) -> Edge
+    ensures { result ≡ pull node end cost }
+{
+    Edge {
+        from: node,
+        to: end,
+        gap: 0,
+        weight: cost,
+    }
 }

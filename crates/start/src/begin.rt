@@ -4,85 +4,68 @@ ghost use Rattle.transport.specs.Flow.{Flows};
 ghost use Rattle.start.specs.Start.{Started};
 ghost use Rattle.relaxation.specs.Limits.{weight_limit, row_limit};
 ghost use Rattle.buffers.specs.Lists.{sum};
-ghost use Rattle.relaxation.specs.Network.{Shaped, Network, Bounded};
-ghost use Rattle.relaxation.specs.Relax.{Sums};
+ghost use Rattle.relaxation.specs.Network.{Bounded};
 
 use crate::rows::start_rows;
-use buffers::clear_first;
 use hints::forest::grow_forest;
+use relaxation::net::{Links, Net};
+use relaxation::scratch::{Hints, Tree};
 use transport::load::load_edges;
+use transport::rows::Rows;
 use transport::shift::sweep_forest;
+use transport::stock::Stock;
 
 // Rows to start with, and all edges taken in at them. Rows that are lent in y save the first relaxation where they are the lowest ones.
-// The nodes are left in `order`.
+// The nodes are left in `tree.capacity`, in their order.
+// Rows and flow are parameters of their own, since of a slice in a struct the caller no longer knows what it holds.
 pub fn start_flow(
-    from: &[usize],
-    to: &[usize],
-    gap: &[usize],
-    weight: &[usize],
-    n: usize,
+    net: &Net<'_>,
     y: &mut [usize],
     flow: &mut [usize],
-    rank: &mut [usize],
-    parent: &mut [usize],
-    order: &mut [usize],
-    supply: &mut [usize],
-    demand: &mut [usize],
-    out_head: &[usize],
-    out_next: &[usize],
+    tree: &mut Tree<'_>,
+    stock: &mut Stock<'_>,
+    outs: &Links<'_>,
     lowest: &mut [usize],
 )
-    requires network { Network from.now to.now gap.now weight.now n }
-    requires bounded { Bounded from.now to.now gap.now n row_limit }
-    requires n_in_bounds { n ≤ length y.old }
-    requires flow_len { length flow.old ≡ length from.now }
-    requires supply_len { length supply.old ≡ n }
-    requires demand_len { length demand.old ≡ n }
-    requires lowest_len { length lowest.old ≡ n }
-    requires rank_len { length rank.old ≡ n }
-    ensures { Started from.now to.now gap.now weight.now n y.old y.new flow.new supply.new demand.new lowest.new }
+    requires bounded { Bounded net.now.arcs.from.now net.now.arcs.to.now net.now.arcs.gap.now net.now.arcs.n row_limit }
+    requires n_in_bounds { net.now.arcs.n ≤ length y.old }
+    requires flow_len { length flow.old ≡ length net.now.arcs.from.now }
+    requires supply_len { length stock.old.supply.now ≡ net.now.arcs.n }
+    requires demand_len { length stock.old.demand.now ≡ net.now.arcs.n }
+    requires lowest_len { length lowest.old ≡ net.now.arcs.n }
+    requires rank_len { length tree.old.rank.now ≡ net.now.arcs.n }
+    ensures started { Started net.now.arcs.from.now net.now.arcs.to.now net.now.arcs.gap.now net.now.weight.now net.now.arcs.n y.old y.new flow.new stock.new.supply.now stock.new.demand.now lowest.new }
+    ensures rank_same { length tree.new.rank.now ≡ length tree.old.rank.now }
+    ensures parent_same { length tree.new.parent.now ≡ length tree.old.parent.now }
+    ensures capacity_same { length tree.new.capacity.now ≡ length tree.old.capacity.now }
 {
-    clear_first(flow, from.len());
-    clear_first(supply, n);
-    clear_first(demand, n);
-    start_rows(
-        from, to, gap, weight, flow, n, y, rank, parent, order, out_head, out_next, lowest,
-    );
-    load_edges(from, to, gap, weight, n, y, flow, supply, demand);
+    flow.fill(0);
+    stock.supply.fill(0);
+    stock.demand.fill(0);
+    start_rows(net, flow, y, tree, outs, lowest);
+    load_edges(&Rows { arcs: net.arcs, y }, net.weight, flow, stock);
 }
 
 // Supply and demand brought nearer to one another: one sweep over a forest of tight edges.
 pub fn ease_flow(
-    from: &[usize],
-    to: &[usize],
-    gap: &[usize],
+    rows: &Rows<'_>,
     weight: &[usize],
-    n: usize,
-    y: &[usize],
     flow: &mut [usize],
-    rank: &mut [usize],
-    parent: &mut [usize],
-    order: &[usize],
-    supply: &mut [usize],
-    demand: &mut [usize],
-    out_head: &[usize],
-    out_next: &[usize],
-    in_head: &[usize],
-    in_next: &[usize],
-    queue: &mut [usize],
+    tree: &mut Tree<'_>,
+    stock: &mut Stock<'_>,
+    hints: &mut Hints<'_>,
 )
-    requires shaped { Shaped from.now to.now gap.now n }
     requires weight_bound { sum weight.now < weight_limit }
-    requires n_in_bounds { n ≤ length y.now }
-    requires sums { Sums from.now gap.now y.now }
-    requires flows { Flows from.now to.now gap.now weight.now n y.now flow.old supply.old demand.old }
-    requires parent_len { length parent.old ≡ n }
-    ensures { Flows from.now to.now gap.now weight.now n y.now flow.new supply.new demand.new }
+    requires flows { Flows rows.now.arcs.from.now rows.now.arcs.to.now rows.now.arcs.gap.now weight.now rows.now.arcs.n rows.now.y.now flow.old stock.old.supply.now stock.old.demand.now }
+    requires parent_len { length tree.old.parent.now ≡ rows.now.arcs.n }
+    ensures flows { Flows rows.now.arcs.from.now rows.now.arcs.to.now rows.now.arcs.gap.now weight.now rows.now.arcs.n rows.now.y.now flow.new stock.new.supply.now stock.new.demand.now }
+    ensures rank_same { length tree.new.rank.now ≡ length tree.old.rank.now }
+    ensures parent_same { length tree.new.parent.now ≡ length tree.old.parent.now }
+    ensures capacity_same { length tree.new.capacity.now ≡ length tree.old.capacity.now }
 {
-    let count = grow_forest(
-        from, to, gap, y, out_head, out_next, in_head, in_next, rank, parent, queue, order,
-    );
-    sweep_forest(
-        from, to, gap, weight, n, y, flow, supply, demand, parent, queue, count,
-    );
+    let rank = &mut *tree.rank;
+    let parent = &mut *tree.parent;
+    let order = &mut *tree.capacity;
+    let count = grow_forest(&rows.arcs, rows.y, hints, rank, parent, order);
+    sweep_forest(rows, weight, flow, stock, parent, &hints.queue[..count]);
 }

@@ -3,70 +3,51 @@ ghost use Rattle.std.specs.Prelude.{◌≡◌, ◌≤◌, length, replicate};
 ghost use Rattle.relaxation.specs.Low.{Lowered};
 ghost use Rattle.start.specs.Start.{RowsReady};
 ghost use Rattle.relaxation.specs.Limits.{row_limit};
-ghost use Rattle.relaxation.specs.Network.{Shaped, Narrow};
 ghost use Rattle.relaxation.specs.Relax.{Holder};
 
-use buffers::copy_first;
 use hints::order::order_nodes;
 use hints::sink::sink_nodes;
 use lowest::{find_short, lowest_rows};
 use relaxation::low::find_high;
+use relaxation::net::{Links, Net};
 use relaxation::relax::relax_edges;
+use relaxation::scratch::Tree;
 
 // Rows that were proposed, kept where they keep every edge and are low, and relaxed again elsewhere. No flow is loaded yet.
-fn accept_rows(
-    from: &[usize],
-    to: &[usize],
-    gap: &[usize],
-    flow: &[usize],
-    n: usize,
-    y: &mut [usize],
-)
-    requires shaped { Shaped from.now to.now gap.now n }
-    requires narrow { Narrow gap.now n }
-    requires n_in_bounds { n ≤ length y.old }
-    requires holder { Holder from.now to.now gap.now flow.now n row_limit }
-    requires flow_value { flow.now ≡ replicate (length from.now) 0 }
-    ensures { Lowered from.now to.now gap.now flow.now n y.old y.new }
+fn accept_rows(net: &Net<'_>, flow: &[usize], y: &mut [usize])
+    requires n_in_bounds { net.now.arcs.n ≤ length y.old }
+    requires holder { Holder net.now.arcs.from.now net.now.arcs.to.now net.now.arcs.gap.now flow.now net.now.arcs.n row_limit }
+    requires flow_value { flow.now ≡ replicate (length net.now.arcs.from.now) 0 }
+    ensures { Lowered net.now.arcs.from.now net.now.arcs.to.now net.now.arcs.gap.now flow.now net.now.arcs.n y.old y.new }
 {
-    if find_high(y, n) > 0 {
-        relax_edges(from, to, gap, flow, n, y);
-        return;
+    if find_high(&y[..net.arcs.n]) || find_short(&net.arcs, y) {
+        relax_edges(&net.arcs, flow, y);
     }
-    if find_short(from, to, gap, n, y) == 0 {
-        return;
-    }
-    relax_edges(from, to, gap, flow, n, y);
 }
 
-// Rows to start with: the lowest ones, which are kept, and then nodes sunk.
+// Rows to start with: the lowest ones, which are kept, and then nodes sunk. The nodes are left in `tree.capacity`, in their order.
 pub fn start_rows(
-    from: &[usize],
-    to: &[usize],
-    gap: &[usize],
-    weight: &[usize],
+    net: &Net<'_>,
     flow: &[usize],
-    n: usize,
     y: &mut [usize],
-    rank: &mut [usize],
-    parent: &mut [usize],
-    order: &mut [usize],
-    out_head: &[usize],
-    out_next: &[usize],
+    tree: &mut Tree<'_>,
+    outs: &Links<'_>,
     lowest: &mut [usize],
 )
-    requires shaped { Shaped from.now to.now gap.now n }
-    requires narrow { Narrow gap.now n }
-    requires n_in_bounds { n ≤ length y.old }
-    requires holder { Holder from.now to.now gap.now flow.now n row_limit }
-    requires flow_value { flow.now ≡ replicate (length from.now) 0 }
-    requires lowest_len { length lowest.old ≡ n }
-    requires rank_len { length rank.old ≡ n }
-    ensures { RowsReady from.now to.now gap.now flow.now n y.old y.new lowest.new }
+    requires n_in_bounds { net.now.arcs.n ≤ length y.old }
+    requires holder { Holder net.now.arcs.from.now net.now.arcs.to.now net.now.arcs.gap.now flow.now net.now.arcs.n row_limit }
+    requires flow_value { flow.now ≡ replicate (length net.now.arcs.from.now) 0 }
+    requires lowest_len { length lowest.old ≡ net.now.arcs.n }
+    requires rank_len { length tree.old.rank.now ≡ net.now.arcs.n }
+    ensures rows { RowsReady net.now.arcs.from.now net.now.arcs.to.now net.now.arcs.gap.now flow.now net.now.arcs.n y.old y.new lowest.new }
+    ensures rank_same { length tree.new.rank.now ≡ length tree.old.rank.now }
+    ensures parent_same { length tree.new.parent.now ≡ length tree.old.parent.now }
+    ensures capacity_same { length tree.new.capacity.now ≡ length tree.old.capacity.now }
 {
-    lowest_rows(from, to, gap, flow, n, y, rank);
-    copy_first(y, lowest, n);
-    order_nodes(y, rank, parent, order);
-    sink_nodes(from, to, gap, weight, n, y, rank, out_head, out_next, order);
-    accept_rows(from, to, gap, flow, n, y);
+    let order = &mut *tree.capacity;
+    lowest_rows(&net.arcs, flow, y, tree.rank);
+    lowest.copy_from_slice(&y[..net.arcs.n]);
+    order_nodes(y, tree.rank, tree.parent, order);
+    sink_nodes(net, y, tree.rank, outs, order);
+    accept_rows(net, flow, y);
 }

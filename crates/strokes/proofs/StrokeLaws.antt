@@ -2,10 +2,11 @@
 use mathlib.Core.Path.{◌≡◌, ◌∙◌}
 use mathlib.Core.Bool.{false}
 use mathlib.Core.List.{List}
-use mathlib.Core.Option.{some, none}
+use Rattle.std.specs.Prelude.{Some, None, slice_get}
+use Rattle.std.proofs.lemmas.Option.{slice_get_past}
 use Prim.Native.Nat.{ℕ, suc, ◌+◌, ◌*◌, ◌≤◌}
 use native.Mathlib.Omega.{arith}
-use lib.ListN.{length, get_elem?, length-map}
+use lib.ListN.{length, length-map}
 use Rattle.graph.specs.Rows.{at, Best}
 use Rattle.outcome.specs.Refusal.{done}
 use Rattle.table.specs.Limits.{max_edges}
@@ -24,7 +25,6 @@ use Rattle.ordering.proofs.DrawnLaws.{drawn-among}
 use Rattle.spacing.specs.Limits.{max_xs}
 use Rattle.routes.specs.declared.Visit.{Visit}
 use Rattle.strokes.specs.Calls.{visits_of, stroke_of, strokes_of}
-use Rattle.routes.proofs.VisitLaws.{elem-none}
 use Rattle.routes.proofs.LeadLaws.{chart-lead}
 use Rattle.routes.proofs.RouteLaws.{strokes-counted}
 use Rattle.routes.proofs.RowLaws.{Neighbouring, strokes-neighbour}
@@ -40,8 +40,8 @@ module _ (p : Placing) (xs : List ℕ) where
       ∙ strokes-counted p.rows (turned_in p.contents) (merged p.contents.edges)
 
   -- none has an index from their number on
-  pub strokes-end : (i : ℕ) → length (strokes_of p xs) ≤ i → get_elem? (strokes_of p xs) i ≡ none
-  strokes-end i h = elem-none (strokes_of p xs) i h
+  pub strokes-end : (i : ℕ) → length (strokes_of p xs) ≤ i → slice_get (strokes_of p xs) i ≡ None
+  strokes-end i h = slice_get_past (strokes_of p xs) i h
 
   -- and they are few, where the chart gets an x: a line has a segment more than it has dummies
   pub strokes-few : length p.contents.edges ≤ max_edges → point_count p.rows (drawn_in p.contents) ≤ max_xs → length (strokes_of p xs) ≤ max_xs + 2 * max_edges
@@ -64,6 +64,6 @@ module _ (bytes : List ℕ) {t : Contents} (said : read bytes ≡ done t) (rows 
   drawn-lead = chart-lead rows (drawn_in t) (chart-of (length t.steps) (oriented_in t) (read-oriented bytes said) rows best (drawn_in t) (drawn-among t))
 
   -- A line stroke starts where the stroke before it ended, and ends in a neighbouring row.
-  pub strokes-joined : (i : ℕ) (v w : Visit) → get_elem? (visits_of rows t) i ≡ some v → get_elem? (visits_of rows t) (suc i) ≡ some w → w.start ≡ false
+  pub strokes-joined : (i : ℕ) (v w : Visit) → slice_get (visits_of rows t) i ≡ Some v → slice_get (visits_of rows t) (suc i) ≡ Some w → w.start ≡ false
       → Neighbouring (at (point_rows rows (drawn_in t)) v.point) (at (point_rows rows (drawn_in t)) w.point)
   strokes-joined = strokes-neighbour rows (turned_in t) (merged t.edges) drawn-lead

@@ -1,7 +1,5 @@
 -- The stroke at an index: what the call answers.
-use Rattle.std.specs.Prelude.{List, map, ℕ, length, get_or}
-use Rattle.std.proofs.Math.Option.{Option, some, none}
-use Rattle.std.proofs.Math.ListN.{get_elem?}
+use Rattle.std.specs.Prelude.{List, map, ℕ, length, get_or, slice_get, Option, Some, None, Result, Ok, Err}
 use Rattle.graph.specs.Rows.{at, Best}
 use Rattle.outcome.specs.Refusal.{Outcome, done, refused, then_do}
 use Rattle.table.specs.Table.{Contents, contents_of, read}
@@ -15,8 +13,7 @@ use Rattle.corners.specs.declared.Stroke.{Stroke}
 use Rattle.corners.specs.Corners.{Stands}
 use Rattle.corners.specs.Strokes.{end_of, stroke_to}
 use Rattle.routes.specs.declared.Visit.{Visit}
-use Rattle.strokes.specs.declared.StrokeAnswer.{StrokeAnswer}
-use Rattle.strokes.specs.declared.StrokeAnswer.TheVariants.{At, Nothing, Refused}
+use Rattle.outcome.specs.declared.Refusal.{Refusal}
 use Rattle.routes.specs.Routes.{no_visit, visits_from}
 
 -- the visits of a table with its rows: dummies are numbered on from the steps
@@ -36,15 +33,11 @@ unfoldable pub strokes_of_table : List ℕ → Outcome (List Stroke)
 strokes_of_table bytes = then_do (chart_of_table bytes) λ p. then_do (unless_past p) λ s. done (strokes_of p s.xs)
 
 -- the one at an index from 0, or none
-abbrev pub answer_of : Option Stroke → StrokeAnswer
-answer_of (some s) = At s
-answer_of none = Nothing
+abbrev pub stroke_at : Outcome (List Stroke) → ℕ → Result (Option Stroke) Refusal
+stroke_at (done strokes) i = Ok (slice_get strokes i)
+stroke_at (refused r) i = Err r
 
-abbrev pub stroke_at : Outcome (List Stroke) → ℕ → StrokeAnswer
-stroke_at (done strokes) i = answer_of (get_elem? strokes i)
-stroke_at (refused r) i = Refused r
-
-unfoldable pub stroke_call : List ℕ → ℕ → StrokeAnswer
+unfoldable pub stroke_call : List ℕ → ℕ → Result (Option Stroke) Refusal
 stroke_call bytes i = stroke_at (strokes_of_table bytes) i
 
 -- ---- nothing is rounded, and nobody can do better
@@ -60,7 +53,7 @@ pub record CornerExact (rows : List ℕ) (t : Contents) (i : ℕ) (c : Corner) :
   pub best_rows : Best (length t.steps) (oriented_in t) rows
 
 -- of an answer, for the table that bytes write down
-abbrev pub AnswerExact : List ℕ → ℕ → StrokeAnswer → Type 0
-AnswerExact bytes i (At s) = CornerExact (rows_held bytes) (contents_of (read bytes)) i (end_of s)
-AnswerExact bytes i Nothing = Unit {0}
-AnswerExact bytes i (Refused r) = Unit {0}
+abbrev pub AnswerExact : List ℕ → ℕ → Result (Option Stroke) Refusal → Type 0
+AnswerExact bytes i (Ok (Some s)) = CornerExact (rows_held bytes) (contents_of (read bytes)) i (end_of s)
+AnswerExact bytes i (Ok None) = Unit {0}
+AnswerExact bytes i (Err r) = Unit {0}

@@ -14,47 +14,30 @@ use corners::Stroke;
 use merging::merge_edges;
 use ordering::chart::merge_ends;
 use ordering::chart_table;
-use outcome::{Refusal, Verdict};
-use routes::{VisitAnswer, find_visit};
+use ordering::types::TableChart;
+use outcome::Refusal;
+use routes::find_visit;
 use spacing::limits::MAX_XS;
 
-// The stroke at an index, none where the strokes are fewer, or why there are no strokes.
-#[derive(Drop)]
-pub enum StrokeAnswer {
-    At(Stroke),
-    Nothing,
-    Refused(Refusal),
-}
-
-// The stroke at an index, counted from 0 over all lines of a table's chart. Refuses as the whole chart does, then more points than get an x.
-// Where there is none, no x is looked for.
-pub fn find_stroke(bytes: &[u8], index: usize) -> StrokeAnswer
+// The stroke at an index, counted from 0 over all lines of a table's chart, or none where the strokes are fewer. Refuses as the whole chart
+// does, then more points than get an x. Where there is no stroke, no x is looked for.
+pub fn find_stroke(bytes: &[u8], index: usize) -> Result<Option<Stroke>, Refusal>
     ensures value { result ≡ stroke_call bytes.now index }
     ensures answer_exact { AnswerExact bytes.now index result }
 {
-    let charted = chart_table(bytes);
-    let table = charted.table;
-    let found = charted.found;
-    let verdict = found.verdict;
-    match verdict {
-        Verdict::Refused(f) => StrokeAnswer::Refused(f),
-        Verdict::Accepted => {
-            let points = found.points;
-            if MAX_XS < points {
-                return StrokeAnswer::Refused(Refusal::LargeChart);
-            }
-            let edges = table.edges;
-            let turned = charted.turned;
-            let rows = found.rows;
-            let all = merge_edges(edges, table.m);
-            match find_visit(&rows[..table.n], all, turned, index) {
-                VisitAnswer::Nowhere => StrokeAnswer::Nothing,
-                VisitAnswer::To(v) => {
-                    let ends = merge_ends(edges, turned, table.m);
-                    let order = found.order;
-                    StrokeAnswer::At(place_stroke(v, &rows[..table.n], ends, &order[..points]))
-                }
-            }
-        }
+    let TableChart {
+        table,
+        turned,
+        chart,
+    } = chart_table(bytes)?;
+    if MAX_XS < chart.order.len() {
+        return Err(Refusal::LargeChart);
     }
+    let lines = merge_edges(&table.edges);
+    let Some(visit) = find_visit(&chart.rows, &lines, &turned, index) else {
+        return Ok(None);
+    };
+    let ends = merge_ends(&table.edges, &turned);
+    let stroke = place_stroke(visit, &chart.rows, &ends, &chart.order);
+    Ok(Some(stroke))
 }

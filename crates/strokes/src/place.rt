@@ -7,24 +7,25 @@ ghost use Rattle.strokes.specs.Placing.{StrokePlaced};
 
 use coordinates::space::space_lines;
 use corners::{Stroke, stroke_to};
-use ordering::chart::EdgeEnds;
-use points::lay_rows;
+use flatten::Flat;
+use points::Layout;
 use routes::Visit;
 use spacing::limits::MAX_XS;
 
 // The stroke of a visit, by the best x and the rows of a chart's points.
-pub fn place_stroke(v: Visit, rows: &[usize], ends: EdgeEnds, order: &[u16]) -> Stroke
-    requires lined { Lined rows.now ends order.now }
+pub fn place_stroke(v: Visit, rows: &[usize], ends: &Flat, order: &[u16]) -> Stroke
+    requires lined { Lined rows.now ends.now order.now }
     requires below { Below max_place rows.now }
     requires point_in_bounds { v.point < length order.now }
-    ensures { StrokePlaced rows.now ends v result }
+    ensures { StrokePlaced rows.now ends.now v result }
 {
-    let count = ends.count;
-    let from = ends.from;
-    let to = ends.to;
     let mut row = [0usize; MAX_XS];
-    lay_rows(rows, &from[..count], &to[..count], &mut row);
+    let layout = Layout {
+        rows,
+        from: &ends.from,
+        to: &ends.to,
+    };
+    layout.lay_rows(&mut row);
     let xs = space_lines(rows, ends, order);
-    let p = v.point;
-    stroke_to(v.start, xs[p], row[p])
+    stroke_to(v.start, xs[v.point], row[v.point])
 }

@@ -5,106 +5,118 @@ ghost use Rattle.std.specs.Prelude.{◌≡◌, ◌≤◌, length};
 ghost use Rattle.passes.specs.Order.{downward};
 ghost use Rattle.passes.specs.Laid.{rows_held};
 ghost use Rattle.points.specs.Lists.{Linked};
+ghost use Rattle.buffers.specs.Lists.{Below};
+ghost use Rattle.barycentre.specs.Steps.{Counted};
 ghost use Rattle.fewest.specs.Fewest.{pass_count};
-ghost use Rattle.fewest.specs.Drafts.{best_in, Segmented, ListRoom, Prepared, Roomy, Scratch, Improving, DrawingHeld};
+ghost use Rattle.fewest.specs.Drafts.{best_in, ListRoom, Prepared, Roomy, Scratch, Improving, DrawingHeld};
 
 use barycentre::count_ends;
-use buffers::copy_all;
-use crossings::count_crossings;
-use fewest::improve_drawing;
-use passes::place_all;
+use crossings::{Rows, count_crossings};
+use fewest::{Draft, Sides, Sketch, improve_drawing};
 use passes::start::start_order;
-use points::lists::link_points;
+use passes::{Work, place_all};
+use points::lists::{Side, link_points};
+
+// Room for the segments on one side of the points: a list for each point, and how many segments it has.
+#[derive(Drop)]
+pub struct SideRoom<'a> {
+    pub head: &'a mut [usize],
+    pub next: &'a mut [usize],
+    pub counts: &'a mut [usize],
+}
 
 // Of points in their rows and the ends of segments: the first order with fewest crossings, of the start and eight passes, to the first
 // entries of `saved`. Answers its crossings. All else that is lent is room for the work.
 pub fn find_fewest(
-    row: &[usize],
-    upper: &[usize],
-    lower: &[usize],
-    first: &mut [usize],
-    order: &mut [usize],
-    before: &mut [usize],
-    pos: &mut [usize],
-    totals: &mut [usize],
-    moved: &mut [usize],
-    above_head: &mut [usize],
-    above_next: &mut [usize],
-    above: &mut [usize],
-    below_head: &mut [usize],
-    below_next: &mut [usize],
-    below: &mut [usize],
+    sketch: &Sketch<'_>,
+    draft: &mut Draft<'_>,
+    above: &mut SideRoom<'_>,
+    below: &mut SideRoom<'_>,
+    work: &mut Work<'_>,
     saved: &mut [usize],
 ) -> usize
-    requires segmented { Segmented row.now upper.now lower.now }
-    requires list_room { ListRoom row.now lower.now above_head.old above_next.old above.old }
-    requires list_room_2 { ListRoom row.now upper.now below_head.old below_next.old below.old }
-    requires roomy { Roomy row.now first.old order.old pos.old saved.old }
-    requires scratch { Scratch row.now totals.old moved.old }
-    requires first_in_bounds { rows_held first.old ≤ length totals.old }
-    requires before_len { length before.old ≡ length order.old }
-    ensures { DrawingHeld (best_in row.now upper.now lower.now first.old) saved.new result }
+    requires room_above { ListRoom sketch.now.row.now sketch.now.lower.now above.old.head.now above.old.next.now above.old.counts.now }
+    requires room_below { ListRoom sketch.now.row.now sketch.now.upper.now below.old.head.now below.old.next.now below.old.counts.now }
+    requires roomy { Roomy sketch.now.row.now draft.old.first.now draft.old.order.now draft.old.pos.now saved.old }
+    requires scratch { Scratch sketch.now.row.now work.old.totals.now work.old.moved.now }
+    requires first_in_bounds { rows_held draft.old.first.now ≤ length work.old.totals.now }
+    requires before_len { length draft.old.before.now ≡ length draft.old.order.now }
+    ensures { DrawingHeld (best_in sketch.now.row.now sketch.now.upper.now sketch.now.lower.now draft.old.first.now) saved.new result }
 {
-    prepare_ends(
-        row, upper, lower, above_head, above_next, above, below_head, below_next, below,
-    );
+    let head = &mut *above.head;
+    let next = &mut *above.next;
+    let counts = &mut *above.counts;
+    list_ends(sketch.lower, head, next, counts);
+    let upward = Side {
+        far: sketch.upper,
+        head,
+        next,
+        counts,
+    };
+    let head = &mut *below.head;
+    let next = &mut *below.next;
+    let counts = &mut *below.counts;
+    list_ends(sketch.upper, head, next, counts);
+    let downward = Side {
+        far: sketch.lower,
+        head,
+        next,
+        counts,
+    };
+    let sides = Sides {
+        row: sketch.row,
+        above: upward,
+        below: downward,
+    };
     let crossings = start_drawing(
-        row, upper, lower, below_head, below_next, first, order, pos, totals, moved, saved,
+        sketch,
+        &sides.below,
+        draft.first,
+        draft.order,
+        draft.pos,
+        work,
+        saved,
     );
-    improve_drawing(
-        row, upper, lower, above_head, above_next, above, below_head, below_next, below, first,
-        order, before, pos, totals, moved, saved, crossings,
-    )
+    improve_drawing(&sides, draft, work, saved, crossings)
 }
 
-// What no pass changes: the segments above and below each point, listed and counted.
-fn prepare_ends(
-    row: &[usize],
-    upper: &[usize],
-    lower: &[usize],
-    above_head: &mut [usize],
-    above_next: &mut [usize],
-    above: &mut [usize],
-    below_head: &mut [usize],
-    below_next: &mut [usize],
-    below: &mut [usize],
-)
-    requires segmented { Segmented row.now upper.now lower.now }
-    requires list_room { ListRoom row.now lower.now above_head.old above_next.old above.old }
-    requires list_room_2 { ListRoom row.now upper.now below_head.old below_next.old below.old }
-    ensures { Prepared row.now upper.now lower.now above_head.new above_next.new above.new below_head.new below_next.new below.new }
+// Segments listed and counted by the points at their near ends.
+fn list_ends(near: &[usize], head: &mut [usize], next: &mut [usize], counts: &mut [usize])
+    requires below { Below (length head.old) near.now }
+    requires below_2 { Below (length counts.old) near.now }
+    requires next_len { length next.old ≡ length near.now }
+    ensures linked { Linked near.now head.new next.new }
+    ensures counted { Counted (length counts.old) near.now counts.new }
 {
-    link_points(lower, above_head, above_next);
-    count_ends(lower, above);
-    link_points(upper, below_head, below_next);
-    count_ends(upper, below);
+    link_points(near, head, next);
+    count_ends(near, counts);
 }
 
-// The start order, with its positions, as the best so far. Answers its crossings; `head` and `next` have the lists by upper end.
+// The start order, with its positions, as the best so far. Answers its crossings; the side has the segments below each point. What the
+// caller has to know of afterwards comes as slices of its own.
 fn start_drawing(
-    row: &[usize],
-    upper: &[usize],
-    lower: &[usize],
-    head: &[usize],
-    next: &[usize],
+    sketch: &Sketch<'_>,
+    side: &Side<'_>,
     first: &mut [usize],
     order: &mut [usize],
     pos: &mut [usize],
-    totals: &mut [usize],
-    moved: &mut [usize],
+    work: &mut Work<'_>,
     saved: &mut [usize],
 ) -> usize
-    requires segmented { Segmented row.now upper.now lower.now }
-    requires linked { Linked upper.now head.now next.now }
-    requires row_in_bounds { length row.now ≤ length head.now }
-    requires roomy { Roomy row.now first.old order.old pos.old saved.old }
-    requires scratch { Scratch row.now totals.old moved.old }
-    requires first_in_bounds { rows_held first.old ≤ length totals.old }
-    ensures { Improving row.now upper.now lower.now first.new pass_count downward order.new pos.new saved.new result }
+    requires far { side.now.far.now ≡ sketch.now.lower.now }
+    requires linked { Linked sketch.now.upper.now side.now.head.now side.now.next.now }
+    requires row_in_bounds { length sketch.now.row.now ≤ length side.now.head.now }
+    requires roomy { Roomy sketch.now.row.now first.old order.old pos.old saved.old }
+    requires scratch { Scratch sketch.now.row.now work.old.totals.now work.old.moved.now }
+    requires first_in_bounds { rows_held first.old ≤ length work.old.totals.now }
+    ensures improving { Improving sketch.now.row.now sketch.now.upper.now sketch.now.lower.now first.new pass_count downward order.new pos.new saved.new result }
+    ensures totals_kept { length work.new.totals.now ≡ length work.old.totals.now }
+    ensures moved_kept { length work.new.moved.now ≡ length work.old.moved.now }
 {
     let count = first.len() - 1;
-    start_order(row, count, order, first, totals, moved);
+    start_order(sketch.row, count, order, first, work.totals, work.moved);
     place_all(order, first, pos);
-    copy_all(order, saved);
-    count_crossings(order, first, head, next, lower, pos, moved, totals)
+    saved.copy_from_slice(order);
+    let rows = Rows { order, first, pos };
+    count_crossings(&rows, side, work.moved, work.totals)
 }

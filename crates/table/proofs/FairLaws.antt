@@ -158,9 +158,9 @@ edge-fair rule s n at {x} {p} e =
     )
 
 -- and each of its numbers fits a byte
-pub edge-narrow : (rule : Rule) (s : List ℕ) (n at : ℕ) {x : Edge} {p : ℕ} → n ≤ max_steps → edge_at rule s n at ≡ got x p
+pub edge_narrow : (rule : Rule) (s : List ℕ) (n at : ℕ) {x : Edge} {p : ℕ} → n ≤ max_steps → edge_at rule s n at ≡ got x p
     → (x.from < 0x100) × (x.to < 0x100) × (x.gap < 0x100) × (x.weight < 0x100)
-edge-narrow rule s n at h e =
+edge_narrow rule s n at h e =
     let f = (edge-fair rule s n at e).0 in
     (omega (arith, f.from_in), omega (arith, f.to_in), omega (arith, f.gap_low), omega (arith, f.weight_low))
 

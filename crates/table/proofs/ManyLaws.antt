@@ -3,10 +3,9 @@ use mathlib.Core.Path.{◌≡◌, refl, ap, ◌∙◌}
 use mathlib.Core.List.{List, [], ◌∷◌, ◌++◌, append-nil}
 use Prim.Native.Nat.{ℕ, zero, suc, ◌+◌, ◌-◌, ◌≤◌, ◌<◌}
 use native.Mathlib.Nat.{not-suc-le-zero}
-use native.Mathlib.Numerals.{sub-one, add-one}
+use native.Mathlib.Numerals.{sub-one}
 use native.Mathlib.Omega.{arith}
-use lib.ListN.{length, take, set}
-use lib.Seq.{take-suc-set}
+use lib.ListN.{length}
 use Rattle.outcome.specs.declared.Refusal.{Refusal}
 use Rattle.table.specs.Number.{Read, got, fault, and_then, many, counted}
 
@@ -31,35 +30,34 @@ module _ {A : Type 0} (item : ℕ → Read A) where
   many-none zero at h = refl
   many-none (suc k) at h = absurd (not-suc-le-zero h)
 
-  -- ---- a loop that keeps the items, the i-th at place i of a list
+  -- ---- a loop that keeps the items in a list
 
-  pub kept-start : (count at : ℕ) (l : List A) → many item count at ≡ before (take 0 l) (many item (count - 0) at)
-  kept-start count at l = let e : count ≡ count - 0 = omega arith in ap (λ k. many item k at) e ∙ go (many item (count - 0) at)
+  pub kept-start : (count at : ℕ) → many item count at ≡ before [] (many item (count - 0) at)
+  kept-start count at = let e : count ≡ count - 0 = omega arith in ap (λ k. many item k at) e ∙ go (many item (count - 0) at)
     where
       go : (r : Read (List A)) → r ≡ before [] r
       go (got m p) = refl
       go (fault r) = refl
 
-  module _ (whole : Read (List A)) (count i p : ℕ) (l : List A) (old : whole ≡ before (take i l) (many item (count - i) p)) where
-    pub kept_next : (a : A) (q : ℕ) → i < count → i < length l → item p ≡ got a q
-        → whole ≡ before (take (i + 1) (set l i a)) (many item (count - (i + 1)) q)
-    kept_next a q h k e =
+  module _ (whole : Read (List A)) (count i p : ℕ) (l : List A) (old : whole ≡ before l (many item (count - i) p)) where
+    pub kept_next : (a : A) (q : ℕ) → i < count → item p ≡ got a q → whole ≡ before (l ++ a ∷ []) (many item (count - (i + 1)) q)
+    kept_next a q h e =
         let r : count - i - 1 ≡ count - (i + 1) = omega arith in
-        rw (old, many_more (count - i) p (omega arith), e, r, add-one i, take-suc-set l i a k) (go (many item (count - suc i) q))
+        rw (old, many_more (count - i) p (omega arith), e, r) (go (many item (count - (i + 1)) q))
       where
         snoc : (x y : List A) → x ++ a ∷ y ≡ (x ++ a ∷ []) ++ y
         snoc [] y = refl
         snoc (b ∷ x) y = ap (λ m. b ∷ m) (snoc x y)
 
-        go : (r : Read (List A)) → before (take i l) (and_then r (λ m e. got (a ∷ m) e)) ≡ before (take i l ++ a ∷ []) r
-        go (got m e) = ap (λ n. got n e) (snoc (take i l) m)
+        go : (r : Read (List A)) → before l (and_then r (λ m e. got (a ∷ m) e)) ≡ before (l ++ a ∷ []) r
+        go (got m e) = ap (λ n. got n e) (snoc l m)
         go (fault r) = refl
 
     pub kept-fault : (r : Refusal) → i < count → item p ≡ fault r → whole ≡ fault r
     kept-fault r h e = rw (old, many_more (count - i) p (omega arith), e)
 
-    pub kept-end : count ≤ i → whole ≡ got (take i l) p
-    kept-end h = rw (old, many-none (count - i) p (omega arith)) (ap (λ m. got m p) (append-nil (take i l)))
+    pub kept-end : count ≤ i → whole ≡ got l p
+    kept-end h = rw (old, many-none (count - i) p (omega arith)) (ap (λ m. got m p) (append-nil l))
 
   -- ---- a loop that counts them
 

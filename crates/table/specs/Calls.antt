@@ -1,51 +1,43 @@
 -- What the call of the reader answers.
-use Rattle.std.specs.Prelude.{List, [], ℕ, length}
-use Rattle.graph.specs.declared.TableEdge.{TableEdge}
-use Rattle.graph.specs.Directed.{no_table_edge}
-use Rattle.buffers.specs.Padded.{padded}
+use Rattle.std.specs.Prelude.{List, ℕ, Result, Ok, Err}
 use Rattle.table.specs.declared.rule.Rule.{Rule}
 use Rattle.table.specs.declared.rule.Rule.TheVariants.{Shortest}
 use Rattle.table.specs.declared.types.Kind.TheVariants.{Check}
 use Rattle.table.specs.declared.types.Step.{Step}
 use Rattle.table.specs.declared.types.Table.{Table}
-use Rattle.table.specs.declared.types.TableRead.{TableRead}
-use Rattle.outcome.specs.declared.Verdict.TheVariants.{Accepted, Refused}
-use Rattle.table.specs.Limits.{max_steps, max_edges}
-use Rattle.outcome.specs.Refusal.{Outcome, done, refused, told, bare, verdict_numbers}
+use Rattle.outcome.specs.declared.Refusal.{Refusal}
+use Rattle.outcome.specs.Refusal.{Outcome, done, refused, told, bare}
 use Rattle.table.specs.Table.{Contents, read_by, contents_of}
 
--- what stands in an array behind its last step
+-- what stands past the end of a list of steps
 abbrev pub no_step : Step
 no_step = record { kind = Check; start = 0; len = 0 }
 
-abbrev pub table_of : List Step → List TableEdge → Table
-table_of steps edges =
-    record {
-      n = length steps;
-      steps = padded max_steps no_step steps;
-      m = length edges;
-      edges = padded max_edges no_table_edge edges;
-    }
+-- what a table in the code says
+abbrev pub contents_in : Table → Contents
+contents_in t = record { steps = t.steps.items; edges = t.edges.items }
 
--- the same as the code's answer: refused, the table is blank
-abbrev pub table_read : Outcome Contents → TableRead
-table_read (done t) = record { verdict = Accepted; table = table_of t.steps t.edges }
-table_read (refused r) = record { verdict = Refused r; table = table_of [] [] }
+-- the outcome that an answer of the code stands for
+abbrev pub table_outcome : Result Table Refusal → Outcome Contents
+table_outcome (Ok t) = done (contents_in t)
+table_outcome (Err r) = refused r
 
--- what the call that reads a table answers: its numbers, and the table
+-- what the call that reads a table answers: its numbers, and the steps and edges
 pub record ReadEnd : Type 0 where
   pub numbers : List ℕ
-  pub table : Table
+  pub contents : Contents
 
--- 0 or the refusal's number, and the table that the bytes write down; a refused one is blank
+-- an outcome in numbers; a refused table has no steps and no edges
+abbrev pub end_of : Outcome Contents → ReadEnd
+end_of o = record { numbers = told bare o; contents = contents_of o }
+
+-- 0 or the refusal's number, and what the bytes write down
 unfoldable pub read_call_by : Rule → List ℕ → ReadEnd
-read_call_by rule bytes =
-    let o = read_by rule bytes in
-    record { numbers = told bare o; table = table_of (contents_of o).steps (contents_of o).edges }
+read_call_by rule bytes = end_of (read_by rule bytes)
 
 abbrev pub read_call : List ℕ → ReadEnd
 read_call bytes = read_call_by Shortest bytes
 
 -- what the code answers, in numbers
-abbrev pub read_end : TableRead → ReadEnd
-read_end r = record { numbers = verdict_numbers r.verdict; table = r.table }
+abbrev pub read_end : Result Table Refusal → ReadEnd
+read_end r = end_of (table_outcome r)

@@ -2,7 +2,6 @@
 pub mod Limits
 pub mod Number
 pub mod Table
-pub mod Reads
 pub mod Calls
 pub mod Fair
 pub mod Hex

@@ -1,11 +1,9 @@
 -- Reading from left to right, and the numbers of a table. What is read is judged at once, and the first fault decides.
-use Rattle.std.specs.Prelude.{Bool, true, false, not, ◌&&◌, cond, List, [], ◌∷◌, ℕ, zero, suc, ◌+◌, ◌-◌, ◌*◌, leb, ltb, eqb, length, get_or}
+use Rattle.std.specs.Prelude.{Bool, true, false, not, ◌&&◌, cond, List, [], ◌∷◌, ℕ, zero, suc, ◌+◌, ◌-◌, ◌*◌, leb, ltb, eqb, length, get_or, Result, Ok, Err}
 use Rattle.outcome.specs.declared.Refusal.{Refusal}
 use Rattle.outcome.specs.declared.Refusal.TheVariants.{Cut, Overlong}
 use Rattle.table.specs.declared.rule.Rule.{Rule}
 use Rattle.table.specs.declared.rule.Rule.TheVariants.{Old, Shortest}
-use Rattle.table.specs.declared.number.NumberRead.{NumberRead}
-use Rattle.table.specs.declared.number.NumberRead.TheVariants.{Got, Fault}
 
 -- what is read from a place on: a value and the place behind it, or the first fault
 pub data Read (A : Type 0) : Type 0 where
@@ -53,7 +51,7 @@ abbrev pub counted : {A : Type 0} → Read (List A) → Read ℕ
 counted (got l e) = got (length l) e
 counted (fault r) = fault r
 
--- what the code's answer stands for
-abbrev pub number_read : NumberRead → Read ℕ
-number_read (Got v p) = got v p
-number_read (Fault r) = fault r
+-- what an answer of the code stands for
+abbrev pub read_of : {A : Type 0} → Result (A × ℕ) Refusal → Read A
+read_of (Ok r) = got r.0 r.1
+read_of (Err f) = fault f

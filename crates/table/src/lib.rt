@@ -6,5 +6,6 @@ pub mod edge;
 pub mod limits;
 pub mod number;
 pub mod rule;
+pub mod source;
 pub mod step;
 pub mod types;

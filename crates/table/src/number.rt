@@ -1,77 +1,73 @@
 // Numbers of one to three bytes, seven bits in each, lowest group first.
-ghost use Rattle.std.specs.Prelude.{◌≡◌};
+ghost use Rattle.std.specs.Prelude.{◌≡◌, ◌≤◌, IfOk};
 ghost use Rattle.outcome.specs.declared.Refusal.TheVariants.{Overlong};
-ghost use Rattle.table.specs.Number.{got, judge, takes, number_at, number_in, number_read};
+ghost use Rattle.table.specs.Number.{got, judge, takes, byte_at, number_at, number_in, read_of};
 
-use crate::rule::{Rule, takes};
+use crate::source::Source;
 use outcome::Refusal;
 
-// A number and the place behind it, or the first fault.
-#[derive(Drop)]
-pub enum NumberRead {
-    Got(usize, usize),
-    Fault(Refusal),
-}
+impl Source<'_> {
+    // The byte at a place.
+    #[tactic(auto, unfolding(crate::specs::Number::byte_at))]
+    pub(crate) fn byte_at(&self, at: usize) -> Result<(u8, usize), Refusal>
+        ensures { read_of result ≡ byte_at self.now.bytes.now at }
+    {
+        let Some(&byte) = self.bytes.get(at) else {
+            return Err(Refusal::Cut);
+        };
+        Ok((byte, at + 1))
+    }
 
-// A number of several bytes up to a place, where the rule takes the last of them.
-fn several(rule: Rule, last: usize, v: usize, next: usize) -> NumberRead
-    ensures { number_read result ≡ judge (takes rule last) Overlong (got v next) }
-{
-    if takes(rule, last) {
-        return NumberRead::Got(v, next);
-    }
-    NumberRead::Fault(Refusal::Overlong)
-}
-
-// The number that starts at a place.
-pub fn number_at(rule: Rule, s: &[u8], at: usize) -> NumberRead
-    ensures { number_read result ≡ number_at rule s.now at }
-{
-    if s.len() <= at {
-        return NumberRead::Fault(Refusal::Cut);
-    }
-    let a = s[at] as usize;
-    if a < 0x80 {
-        return NumberRead::Got(a, at + 1);
-    }
-    if s.len() - at <= 1 {
-        return NumberRead::Fault(Refusal::Cut);
-    }
-    let b = s[at + 1] as usize;
-    if b < 0x80 {
-        return several(rule, b, a - 0x80 + b * 0x80, at + 2);
-    }
-    if s.len() - at <= 2 {
-        return NumberRead::Fault(Refusal::Cut);
-    }
-    let c = s[at + 2] as usize;
-    if c < 0x80 {
-        return several(rule, c, a - 0x80 + (b - 0x80) * 0x80 + c * 0x4000, at + 3);
-    }
-    NumberRead::Fault(Refusal::Overlong)
-}
-
-// A number from low to high; any other is refused for the reason given.
-pub fn number_in(
-    rule: Rule,
-    s: &[u8],
-    at: usize,
-    low: usize,
-    high: usize,
-    reason: Refusal,
-) -> NumberRead
-    ensures { number_read result ≡ number_in rule low high reason s.now at }
-{
-    match number_at(rule, s, at) {
-        NumberRead::Fault(f) => NumberRead::Fault(f),
-        NumberRead::Got(v, p) => {
-            if v < low {
-                return NumberRead::Fault(reason);
-            }
-            if high < v {
-                return NumberRead::Fault(reason);
-            }
-            NumberRead::Got(v, p)
+    // A number of several bytes up to a place, where the rule takes the last of them.
+    fn several(&self, last: usize, v: usize, next: usize) -> Result<(usize, usize), Refusal>
+        ensures { read_of result ≡ judge (takes self.now.rule last) Overlong (got v next) }
+    {
+        if self.rule.takes(last) {
+            return Ok((v, next));
         }
+        Err(Refusal::Overlong)
+    }
+
+    // The number that starts at a place.
+    #[tactic(auto, unfolding(crate::specs::Number::number_at))]
+    pub fn number_at(&self, at: usize) -> Result<(usize, usize), Refusal>
+        ensures { read_of result ≡ number_at self.now.rule self.now.bytes.now at }
+    {
+        let (first, p) = self.byte_at(at)?;
+        let a = first as usize;
+        if a < 0x80 {
+            return Ok((a, p));
+        }
+        let (second, q) = self.byte_at(p)?;
+        let b = second as usize;
+        if b < 0x80 {
+            return self.several(b, a - 0x80 + b * 0x80, q);
+        }
+        let (third, next) = self.byte_at(q)?;
+        let c = third as usize;
+        if c < 0x80 {
+            return self.several(c, a - 0x80 + (b - 0x80) * 0x80 + c * 0x4000, next);
+        }
+        Err(Refusal::Overlong)
+    }
+
+    // A number from low to high; any other is refused for the reason given.
+    // Read and then judged, as are `name_byte_at` and `end_at`, each by a test and with a refusal of its own.
+    #[tactic(auto, unfolding(crate::specs::Number::number_in))]
+    pub fn number_in(
+        &self,
+        at: usize,
+        low: usize,
+        high: usize,
+        reason: Refusal,
+    ) -> Result<(usize, usize), Refusal>
+        ensures value { read_of result ≡ number_in self.now.rule low high reason self.now.bytes.now at }
+        ensures within { IfOk result (λ r. (low ≤ r.0) × (r.0 ≤ high)) }
+    {
+        let (v, next) = self.number_at(at)?;
+        if v < low || high < v {
+            return Err(reason);
+        }
+        Ok((v, next))
     }
 }

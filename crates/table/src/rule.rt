@@ -4,18 +4,20 @@ ghost use Rattle.table.specs.Number.{takes};
 
 // The old rule, by which stored tables are converted, takes long forms: numbers with groups of zeros behind them. Any other reading is by
 // the shortest rule, which takes a number in its fewest bytes alone.
-#[derive(Clone, Copy, Drop)]
+#[derive(Clone, Copy, Debug, PartialEq, Eq)]
 pub enum Rule {
     Old,
     Shortest,
 }
 
-// Whether a number of several bytes is taken, by the last of them.
-pub fn takes(rule: Rule, last: usize) -> bool
-    ensures { result ≡ takes rule last }
-{
-    match rule {
-        Rule::Old => true,
-        Rule::Shortest => last != 0,
+impl Rule {
+    // Whether a number of several bytes is taken, by the last of them.
+    pub fn takes(self, last: usize) -> bool
+        ensures { result ≡ takes self last }
+    {
+        match self {
+            Rule::Old => true,
+            Rule::Shortest => last != 0,
+        }
     }
 }

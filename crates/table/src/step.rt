@@ -1,116 +1,89 @@
 // Steps: a kind with the number that it carries, and a name.
 ghost use Rattle.std.specs.Prelude.{◌≡◌};
-ghost use Rattle.table.specs.Number.{number_read};
-ghost use Rattle.table.specs.Table.{adjust_at, wait_at, kind_at, name_at, named_at, step_at};
-ghost use Rattle.table.specs.Reads.{kind_read, step_read};
+ghost use Rattle.table.specs.Number.{read_of};
+ghost use Rattle.table.specs.Table.{adjust_at, wait_at, kind_at, name_byte_at, name_at, named_at, step_at};
 
 use crate::limits::{
     MAX_KIND, MAX_MINUTES, MAX_NAME, MAX_NAME_BYTE, MAX_TOLERANCE, MIN_MINUTES, MIN_NAME,
     MIN_NAME_BYTE,
 };
-use crate::number::{NumberRead, number_in};
-use crate::rule::Rule;
+use crate::source::Source;
 use crate::types::{Kind, Step};
 use outcome::Refusal;
 
-#[derive(Drop)]
-pub enum KindRead {
-    Got(Kind, usize),
-    Fault(Refusal),
-}
-
-#[derive(Drop)]
-pub enum StepRead {
-    Got(Step, usize),
-    Fault(Refusal),
-}
-
-// An adjustment's tolerance.
-fn adjust_at(rule: Rule, s: &[u8], at: usize) -> KindRead
-    ensures { kind_read result ≡ adjust_at rule s.now at }
-{
-    match number_in(rule, s, at, 0, MAX_TOLERANCE, Refusal::OutOfRange) {
-        NumberRead::Fault(f) => KindRead::Fault(f),
-        NumberRead::Got(t, p) => KindRead::Got(Kind::Adjust(t), p),
+impl Source<'_> {
+    // An adjustment's tolerance.
+    #[tactic(auto, unfolding(crate::specs::Table::adjust_at))]
+    fn adjust_at(&self, at: usize) -> Result<(Kind, usize), Refusal>
+        ensures { read_of result ≡ adjust_at self.now.rule self.now.bytes.now at }
+    {
+        let (tolerance, next) = self.number_in(at, 0, MAX_TOLERANCE, Refusal::OutOfRange)?;
+        Ok((Kind::Adjust(tolerance), next))
     }
-}
 
-// A wait's minutes.
-fn wait_at(rule: Rule, s: &[u8], at: usize) -> KindRead
-    ensures { kind_read result ≡ wait_at rule s.now at }
-{
-    match number_in(rule, s, at, MIN_MINUTES, MAX_MINUTES, Refusal::OutOfRange) {
-        NumberRead::Fault(f) => KindRead::Fault(f),
-        NumberRead::Got(m, p) => KindRead::Got(Kind::Wait(m), p),
+    // A wait's minutes.
+    #[tactic(auto, unfolding(crate::specs::Table::wait_at))]
+    fn wait_at(&self, at: usize) -> Result<(Kind, usize), Refusal>
+        ensures { read_of result ≡ wait_at self.now.rule self.now.bytes.now at }
+    {
+        let (minutes, next) = self.number_in(at, MIN_MINUTES, MAX_MINUTES, Refusal::OutOfRange)?;
+        Ok((Kind::Wait(minutes), next))
     }
-}
 
-// A kind with what it adds.
-fn kind_at(rule: Rule, s: &[u8], at: usize) -> KindRead
-    ensures { kind_read result ≡ kind_at rule s.now at }
-{
-    match number_in(rule, s, at, 0, MAX_KIND, Refusal::BadKind) {
-        NumberRead::Fault(f) => KindRead::Fault(f),
-        NumberRead::Got(k, p) => {
-            if k == 0 {
-                return KindRead::Got(Kind::Check, p);
-            }
-            if k == 1 {
-                return adjust_at(rule, s, p);
-            }
-            wait_at(rule, s, p)
+    // A kind with what it adds.
+    #[tactic(auto, unfolding(crate::specs::Table::kind_at))]
+    fn kind_at(&self, at: usize) -> Result<(Kind, usize), Refusal>
+        ensures { read_of result ≡ kind_at self.now.rule self.now.bytes.now at }
+    {
+        let (k, next) = self.number_in(at, 0, MAX_KIND, Refusal::BadKind)?;
+        match k {
+            0 => Ok((Kind::Check, next)),
+            1 => self.adjust_at(next),
+            _ => self.wait_at(next),
         }
     }
-}
 
-// A name of len bytes: its length and the place behind it.
-fn name_at(s: &[u8], at: usize, len: usize) -> NumberRead
-    ensures { number_read result ≡ name_at s.now len at }
-{
-    let mut i = 0;
-    let mut p = at;
-    while i < len {
-        if s.len() <= p {
-            return NumberRead::Fault(Refusal::Cut);
+    // A byte that a name may have.
+    #[tactic(auto, unfolding(crate::specs::Table::name_byte_at))]
+    fn name_byte_at(&self, at: usize) -> Result<(u8, usize), Refusal>
+        ensures { read_of result ≡ name_byte_at self.now.bytes.now at }
+    {
+        let (byte, next) = self.byte_at(at)?;
+        if byte < MIN_NAME_BYTE || MAX_NAME_BYTE < byte {
+            return Err(Refusal::BadNameByte);
         }
-        let b = s[p];
-        if b < MIN_NAME_BYTE {
-            return NumberRead::Fault(Refusal::BadNameByte);
-        }
-        if MAX_NAME_BYTE < b {
-            return NumberRead::Fault(Refusal::BadNameByte);
-        }
-        p += 1;
-        i += 1;
+        Ok((byte, next))
     }
-    NumberRead::Got(len, p)
-}
 
-// The name of a step whose kind is known.
-fn named_at(rule: Rule, s: &[u8], kind: Kind, at: usize) -> StepRead
-    ensures { step_read result ≡ named_at rule s.now kind at }
-{
-    match number_in(rule, s, at, MIN_NAME, MAX_NAME, Refusal::OutOfRange) {
-        NumberRead::Fault(f) => StepRead::Fault(f),
-        NumberRead::Got(l, p) => match name_at(s, p, l) {
-            NumberRead::Fault(f) => StepRead::Fault(f),
-            NumberRead::Got(len, e) => StepRead::Got(
-                Step {
-                    kind: kind,
-                    start: p,
-                    len: len,
-                },
-                e,
-            ),
-        },
+    // A name of len bytes: its length and the place behind it.
+    #[tactic(auto, unfolding(crate::specs::Table::name_at))]
+    fn name_at(&self, len: usize, at: usize) -> Result<(usize, usize), Refusal>
+        ensures { read_of result ≡ name_at self.now.bytes.now len at }
+    {
+        let mut next = at;
+        for _ in 0..len {
+            let (_, after) = self.name_byte_at(next)?;
+            next = after;
+        }
+        Ok((len, next))
     }
-}
 
-pub fn step_at(rule: Rule, s: &[u8], at: usize) -> StepRead
-    ensures { step_read result ≡ step_at rule s.now at }
-{
-    match kind_at(rule, s, at) {
-        KindRead::Fault(f) => StepRead::Fault(f),
-        KindRead::Got(kind, p) => named_at(rule, s, kind, p),
+    // The name of a step whose kind is known.
+    #[tactic(auto, unfolding(crate::specs::Table::named_at))]
+    fn named_at(&self, kind: Kind, at: usize) -> Result<(Step, usize), Refusal>
+        ensures { read_of result ≡ named_at self.now.rule self.now.bytes.now kind at }
+    {
+        let (size, start) = self.number_in(at, MIN_NAME, MAX_NAME, Refusal::OutOfRange)?;
+        let (len, next) = self.name_at(size, start)?;
+        Ok((Step { kind, start, len }, next))
+    }
+
+    // A step: its kind, and its name.
+    #[tactic(auto, unfolding(crate::specs::Table::step_at))]
+    pub fn step_at(&self, at: usize) -> Result<(Step, usize), Refusal>
+        ensures { read_of result ≡ step_at self.now.rule self.now.bytes.now at }
+    {
+        let (kind, next) = self.kind_at(at)?;
+        self.named_at(kind, next)
     }
 }

@@ -2,4 +2,6 @@
 #![tactic(auto)]
 
 pub mod load;
+pub mod rows;
 pub mod shift;
+pub mod stock;

@@ -7,72 +7,47 @@ ghost use Rattle.transport.specs.Load.{Loads};
 ghost use Rattle.buffers.specs.Written.{word_limit};
 ghost use Rattle.relaxation.specs.Limits.{weight_limit};
 ghost use Rattle.buffers.specs.Lists.{sum};
-ghost use Rattle.relaxation.specs.Network.{Shaped};
-ghost use Rattle.relaxation.specs.Relax.{Sums};
 
-use buffers::clear_first;
-use relaxation::relax::relax_edges;
+use crate::rows::Rows;
+use crate::stock::Stock;
 
 // Edge e taken in.
 pub fn load_edge(
-    from: &[usize],
-    to: &[usize],
-    gap: &[usize],
+    rows: &Rows<'_>,
     weight: &[usize],
-    y: &[usize],
     flow: &mut [usize],
-    supply: &mut [usize],
-    demand: &mut [usize],
+    stock: &mut Stock<'_>,
     e: usize,
 )
-    requires e_in_bounds { e < length from.now }
-    requires shaped { Shaped from.now to.now gap.now (length supply.old) }
-    requires weight_len { length weight.now ≡ length from.now }
-    requires flow_len { length flow.old ≡ length from.now }
-    requires demand_len { length demand.old ≡ length supply.old }
-    requires supply_in_bounds { length supply.old ≤ length y.now }
-    requires sums { Sums from.now gap.now y.now }
-    requires e_bound { at supply.old (at from.now e) + at weight.now e < word_limit }
-    requires e_bound_2 { at demand.old (at to.now e) + at weight.now e < word_limit }
-    ensures { Loads from.now to.now gap.now weight.now y.now flow.old supply.old demand.old e flow.new supply.new demand.new }
+    requires e_in_bounds { e < length rows.now.arcs.from.now }
+    requires weight_len { length weight.now ≡ length rows.now.arcs.from.now }
+    requires flow_len { length flow.old ≡ length rows.now.arcs.from.now }
+    requires supply_len { length stock.old.supply.now ≡ rows.now.arcs.n }
+    requires demand_len { length stock.old.demand.now ≡ rows.now.arcs.n }
+    requires e_bound { at stock.old.supply.now (at rows.now.arcs.from.now e) + at weight.now e < word_limit }
+    requires e_bound_2 { at stock.old.demand.now (at rows.now.arcs.to.now e) + at weight.now e < word_limit }
+    ensures { Loads rows.now.arcs.from.now rows.now.arcs.to.now rows.now.arcs.gap.now weight.now rows.now.y.now flow.old stock.old.supply.now stock.old.demand.now e flow.new stock.new.supply.now stock.new.demand.now }
 {
-    let f = from[e];
-    let t = to[e];
     let w = weight[e];
-    if y[t] == y[f] + gap[e] {
+    if rows.is_tight(e) {
         flow[e] = w;
         return;
     }
-    supply[f] += w;
-    demand[t] += w;
+    stock.supply[rows.arcs.from[e]] += w;
+    stock.demand[rows.arcs.to[e]] += w;
 }
 
-// All edges taken in.
-pub fn load_edges(
-    from: &[usize],
-    to: &[usize],
-    gap: &[usize],
-    weight: &[usize],
-    n: usize,
-    y: &[usize],
-    flow: &mut [usize],
-    supply: &mut [usize],
-    demand: &mut [usize],
-)
-    requires shaped { Shaped from.now to.now gap.now n }
-    requires weight_len { length weight.now ≡ length from.now }
+// All edges taken in. By number, since an edge is its number in five slices.
+pub fn load_edges(rows: &Rows<'_>, weight: &[usize], flow: &mut [usize], stock: &mut Stock<'_>)
+    requires weight_len { length weight.now ≡ length rows.now.arcs.from.now }
     requires weight_bound { sum weight.now < weight_limit }
-    requires n_in_bounds { n ≤ length y.now }
-    requires sums { Sums from.now gap.now y.now }
-    requires held { Held from.now to.now gap.now flow.old (at y.now) }
-    requires flow_value { flow.old ≡ replicate (length from.now) 0 }
-    requires supply_value { supply.old ≡ replicate n 0 }
-    requires demand_value { demand.old ≡ replicate n 0 }
-    ensures { Flows from.now to.now gap.now weight.now n y.now flow.new supply.new demand.new }
+    requires held { Held rows.now.arcs.from.now rows.now.arcs.to.now rows.now.arcs.gap.now flow.old (at rows.now.y.now) }
+    requires flow_value { flow.old ≡ replicate (length rows.now.arcs.from.now) 0 }
+    requires supply_value { stock.old.supply.now ≡ replicate rows.now.arcs.n 0 }
+    requires demand_value { stock.old.demand.now ≡ replicate rows.now.arcs.n 0 }
+    ensures { Flows rows.now.arcs.from.now rows.now.arcs.to.now rows.now.arcs.gap.now weight.now rows.now.arcs.n rows.now.y.now flow.new stock.new.supply.now stock.new.demand.now }
 {
-    let mut e = 0;
-    while e < from.len() {
-        load_edge(from, to, gap, weight, y, flow, supply, demand, e);
-        e += 1;
+    for e in 0..rows.arcs.from.len() {
+        load_edge(rows, weight, flow, stock, e);
     }
 }

@@ -1,15 +1,16 @@
 // Handing supply and demand over one edge: no matter which edge, the flow stays balanced with the weights but for supply and demand.
+//
+// What the flow and the stock are stays a clause: each call changes them. So does the bound of the weights, which come beside the edges.
 ghost use Rattle.std.specs.Prelude.{◌≡◌, ◌+◌, ◌≤◌, ◌<◌, length};
 ghost use Rattle.graph.specs.Rows.{at};
 ghost use Rattle.transport.specs.Flow.{Flows};
 ghost use Rattle.buffers.specs.Written.{word_limit};
 ghost use Rattle.relaxation.specs.Limits.{weight_limit};
 ghost use Rattle.buffers.specs.Lists.{sum};
-ghost use Rattle.relaxation.specs.Network.{Shaped};
-ghost use Rattle.relaxation.specs.Relax.{Sums};
 ghost use Rattle.transport.specs.Shift.{shifted, Cancels, CarriesOn, CarriesBack};
 
-use buffers::{smaller_of, take_at};
+use crate::rows::Rows;
+use crate::stock::Stock;
 
 // No flow grows past it while supply and demand are handed on.
 const FLOW_LIMIT: usize = 9223372036854775808;
@@ -52,124 +53,90 @@ fn carry_back(flow: &mut [usize], xs: &mut [usize], a: usize, u: usize, w: usize
     requires xs_bound { sum xs.old < weight_limit }
     ensures { CarriesBack flow.old xs.old a u w flow.new xs.new }
 {
-    let d = smaller_of(xs[u], flow[a]);
-    take_at(flow, a, d);
+    let d = xs[u].min(flow[a]);
+    flow[a] -= d;
     shift_at(xs, u, w, d);
 }
 
 // What node v has both to send and to get, taken off both.
-fn cancel_at(supply: &mut [usize], demand: &mut [usize], v: usize)
-    requires v_in_bounds { v < length supply.old }
-    requires v_in_bounds_2 { v < length demand.old }
-    ensures { Cancels supply.old demand.old v supply.new demand.new }
+fn cancel_at(stock: &mut Stock<'_>, v: usize)
+    requires v_in_bounds { v < length stock.old.supply.now }
+    requires v_in_bounds_2 { v < length stock.old.demand.now }
+    ensures { Cancels stock.old.supply.now stock.old.demand.now v stock.new.supply.now stock.new.demand.now }
 {
-    let d = smaller_of(supply[v], demand[v]);
-    take_at(supply, v, d);
-    take_at(demand, v, d);
+    let d = stock.supply[v].min(stock.demand[v]);
+    stock.supply[v] -= d;
+    stock.demand[v] -= d;
 }
 
 // Supply and demand of node v handed over edge a, where it is tight, to its other end.
 fn hand_over(
-    from: &[usize],
-    to: &[usize],
-    gap: &[usize],
+    rows: &Rows<'_>,
     weight: &[usize],
-    n: usize,
-    y: &[usize],
     flow: &mut [usize],
-    supply: &mut [usize],
-    demand: &mut [usize],
+    stock: &mut Stock<'_>,
     v: usize,
     a: usize,
 )
-    requires shaped { Shaped from.now to.now gap.now n }
     requires weight_bound { sum weight.now < weight_limit }
-    requires n_in_bounds { n ≤ length y.now }
-    requires sums { Sums from.now gap.now y.now }
-    requires flows { Flows from.now to.now gap.now weight.now n y.now flow.old supply.old demand.old }
-    requires a_in_bounds { a < length from.now }
-    ensures { Flows from.now to.now gap.now weight.now n y.now flow.new supply.new demand.new }
+    requires flows { Flows rows.now.arcs.from.now rows.now.arcs.to.now rows.now.arcs.gap.now weight.now rows.now.arcs.n rows.now.y.now flow.old stock.old.supply.now stock.old.demand.now }
+    requires a_in_bounds { a < length rows.now.arcs.from.now }
+    ensures { Flows rows.now.arcs.from.now rows.now.arcs.to.now rows.now.arcs.gap.now weight.now rows.now.arcs.n rows.now.y.now flow.new stock.new.supply.now stock.new.demand.now }
 {
-    let f = from[a];
-    let t = to[a];
-    if y[t] != y[f] + gap[a] {
+    if !rows.is_tight(a) {
         return;
     }
+    let f = rows.arcs.from[a];
+    let t = rows.arcs.to[a];
     if f == v {
-        carry_on(flow, supply, a, f, t);
-        carry_back(flow, demand, a, f, t);
+        carry_on(flow, stock.supply, a, f, t);
+        carry_back(flow, stock.demand, a, f, t);
         return;
     }
-    carry_back(flow, supply, a, t, f);
-    carry_on(flow, demand, a, t, f);
+    carry_back(flow, stock.supply, a, t, f);
+    carry_on(flow, stock.demand, a, t, f);
 }
 
-// The i-th node of the queue: its supply and demand cancelled, and what is left handed over its parent edge.
+// Node v: its supply and demand cancelled, and what is left handed over its parent edge.
 fn move_up(
-    from: &[usize],
-    to: &[usize],
-    gap: &[usize],
+    rows: &Rows<'_>,
     weight: &[usize],
-    n: usize,
-    y: &[usize],
     flow: &mut [usize],
-    supply: &mut [usize],
-    demand: &mut [usize],
+    stock: &mut Stock<'_>,
     parent: &[usize],
-    queue: &[usize],
-    i: usize,
+    v: usize,
 )
-    requires shaped { Shaped from.now to.now gap.now n }
     requires weight_bound { sum weight.now < weight_limit }
-    requires n_in_bounds { n ≤ length y.now }
-    requires sums { Sums from.now gap.now y.now }
-    requires flows { Flows from.now to.now gap.now weight.now n y.now flow.old supply.old demand.old }
-    requires parent_len { length parent.now ≡ n }
-    ensures { Flows from.now to.now gap.now weight.now n y.now flow.new supply.new demand.new }
+    requires flows { Flows rows.now.arcs.from.now rows.now.arcs.to.now rows.now.arcs.gap.now weight.now rows.now.arcs.n rows.now.y.now flow.old stock.old.supply.now stock.old.demand.now }
+    requires parent_len { length parent.now ≡ rows.now.arcs.n }
+    ensures { Flows rows.now.arcs.from.now rows.now.arcs.to.now rows.now.arcs.gap.now weight.now rows.now.arcs.n rows.now.y.now flow.new stock.new.supply.now stock.new.demand.now }
 {
-    if i >= queue.len() {
+    if v >= rows.arcs.n {
         return;
     }
-    let v = queue[i];
-    if v >= n {
-        return;
-    }
-    cancel_at(supply, demand, v);
+    cancel_at(stock, v);
     let a = parent[v];
-    if a >= from.len() {
+    if a >= rows.arcs.from.len() {
         return;
     }
-    hand_over(from, to, gap, weight, n, y, flow, supply, demand, v, a);
+    hand_over(rows, weight, flow, stock, v, a);
 }
 
-// The first count nodes of the queue, the last one first: each hands on to its parent what it has.
+// The nodes of the queue, the last one first: each hands on to its parent what it has.
 pub fn sweep_forest(
-    from: &[usize],
-    to: &[usize],
-    gap: &[usize],
+    rows: &Rows<'_>,
     weight: &[usize],
-    n: usize,
-    y: &[usize],
     flow: &mut [usize],
-    supply: &mut [usize],
-    demand: &mut [usize],
+    stock: &mut Stock<'_>,
     parent: &[usize],
     queue: &[usize],
-    count: usize,
 )
-    requires shaped { Shaped from.now to.now gap.now n }
     requires weight_bound { sum weight.now < weight_limit }
-    requires n_in_bounds { n ≤ length y.now }
-    requires sums { Sums from.now gap.now y.now }
-    requires flows { Flows from.now to.now gap.now weight.now n y.now flow.old supply.old demand.old }
-    requires parent_len { length parent.now ≡ n }
-    ensures { Flows from.now to.now gap.now weight.now n y.now flow.new supply.new demand.new }
+    requires flows { Flows rows.now.arcs.from.now rows.now.arcs.to.now rows.now.arcs.gap.now weight.now rows.now.arcs.n rows.now.y.now flow.old stock.old.supply.now stock.old.demand.now }
+    requires parent_len { length parent.now ≡ rows.now.arcs.n }
+    ensures { Flows rows.now.arcs.from.now rows.now.arcs.to.now rows.now.arcs.gap.now weight.now rows.now.arcs.n rows.now.y.now flow.new stock.new.supply.now stock.new.demand.now }
 {
-    let mut i = count;
-    while i > 0 {
-        i -= 1;
-        move_up(
-            from, to, gap, weight, n, y, flow, supply, demand, parent, queue, i,
-        );
+    for &v in queue.iter().rev() {
+        move_up(rows, weight, flow, stock, parent, v);
     }
 }

@@ -62,31 +62,16 @@ pub fn refusal_word(f: Refusal) -> u64
     requires { step_of f < second }
     ensures { result ≡ done_word (numbers_of f) }
 {
-    (outcome::number_of(f) + loop_step(f) * SECOND) as u64
+    (f.number() + loop_step(f) * SECOND) as u64
 }
 
 // The step that comes with a loop; 0 with any other refusal.
+// A number and no Option: the C interface has 0 there where no step comes with it.
 fn loop_step(f: Refusal) -> usize
     ensures { result ≡ step_of f }
 {
     match f {
-        Refusal::Loop(s) => s,
-        Refusal::Cut => 0,
-        Refusal::Overlong => 0,
-        Refusal::BadEdition => 0,
-        Refusal::ManySteps => 0,
-        Refusal::BadKind => 0,
-        Refusal::OutOfRange => 0,
-        Refusal::BadNameByte => 0,
-        Refusal::ManyEdges => 0,
-        Refusal::BadEnd => 0,
-        Refusal::Spare => 0,
-        Refusal::ManyPoints => 0,
-        Refusal::ShortBuffer => 0,
-        Refusal::NoStep => 0,
-        Refusal::BadFirmness => 0,
-        Refusal::LargeChart => 0,
-        Refusal::BadRow => 0,
-        Refusal::ManyTries => 0,
+        Refusal::Loop(step) => step,
+        _ => 0,
     }
 }

@@ -19,7 +19,7 @@ use Rattle.table.proofs.InverseLaws.{never, came, passed, got-value, got-place}
 use Rattle.table.proofs.PlaceLaws.{Took, number-place}
 use Rattle.encoding.specs.Limits.{number_limit}
 use Rattle.encoding.specs.Shortest.{short_number}
-use Rattle.encoding.proofs.ShortLaws.{short-one, short-two, bytes_one, bytes-two}
+use Rattle.encoding.proofs.ShortLaws.{short_one, short_two, bytes_one, bytes-two}
 use Rattle.writing.proofs.StandsLaws.{Stands, stands-in, stands-byte, stands-next}
 
 -- ---- read back
@@ -31,12 +31,12 @@ number-back s at v low h = go (dec_lt v 0x80)
   where
     go : Dec (v < 0x80) → number_at Shortest s at ≡ got v (at + length (short_number v))
     go (yes l) =
-        let e = short-one v l in
+        let e = short_one v l in
         let a : Stands s at (v ∷ []) = subst (Stands s at) e h in
         let b = stands-byte a in
         one Shortest s at (stands-in a) (omega arith) ∙ rw (e, b)
     go (no l) =
-        let e = short-two v (omega arith) low in
+        let e = short_two v (omega arith) low in
         let a : Stands s at ((v % 0x80 + 0x80) ∷ v / 0x80 ∷ []) = subst (Stands s at) e h in
         let c = stands-next a in
         let b = stands-byte a in

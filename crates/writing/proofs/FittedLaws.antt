@@ -1,43 +1,27 @@
--- Bytes made on a page and handed out: which part of the page they are, and what becomes of the lent buffer.
-use mathlib.Core.Path.{◌≡◌, refl, ◌∙◌}
+-- Bytes made on a page and handed out: what becomes of the lent buffer.
+use mathlib.Core.Path.{◌≡◌, refl}
 use mathlib.Core.Bool.{Bool, true, false}
-use mathlib.Core.List.{List, [], ◌∷◌}
+use mathlib.Core.List.{List, [], ◌∷◌, ◌++◌}
 use Prim.Native.Nat.{ℕ, ◌≤◌, ◌<◌}
 use native.Mathlib.Omega.{arith}
 use borrow.Author.Tests.{le-leb, lt-leb, leb-true}
 use lib.Dec.{leb}
-use lib.ListN.{length, take}
+use lib.ListN.{length, drop}
+use Rattle.std.specs.Prelude.{Ok, Err}
 use Rattle.outcome.specs.declared.Refusal.TheVariants.{ShortBuffer}
 use Rattle.outcome.specs.Refusal.{Outcome, done, refused, demand}
 use Rattle.outcome.proofs.ToldLaws.{told-done}
-use Rattle.buffers.specs.Written.{Stored}
-use Rattle.buffers.proofs.WriteLaws.{stored-long, written_is, written-take}
-use Rattle.writing.specs.declared.WriteAnswer.TheVariants.{Written, Refused}
 use Rattle.writing.specs.Calls.{fitted, count_of, write_end, write_numbers}
 
--- ---- the page
-
-module _ (page page₁ : List ℕ) (len : ℕ) {text : List ℕ} (fits : length text ≤ length page) (s : Stored page 0 text page₁ len) where
-  len_is : len ≡ length text
-  len_is = omega (arith, s.counts)
-
-  pub front-inside : len ≤ length page₁
-  front-inside = omega (arith, len_is, stored-long s)
-
-  pub front-is : take len page₁ ≡ text
-  front-is = rw (len_is, s.holds) (written-take page text fits)
-
--- ---- the buffer
-
 module _ (text old : List ℕ) where
-  pub end_short : length old < length text → (write_numbers (Refused ShortBuffer) ≡ (write_end (done text) old).numbers) × (old ≡ (write_end (done text) old).out)
+  pub end_short : length old < length text → (write_numbers (Err ShortBuffer) ≡ (write_end (done text) old).numbers) × (old ≡ (write_end (done text) old).out)
   unfolding fitted
   end_short l = let b = lt-leb (length text) (length old) l in (rw b, rw b)
 
-  pub end-written : (new : List ℕ) (p : ℕ) → length text ≤ length old → Stored old 0 text new p
-      → (write_numbers (Written (length text)) ≡ (write_end (done text) old).numbers) × (new ≡ (write_end (done text) old).out)
+  pub end-written : {new : List ℕ} → length text ≤ length old → new ≡ text ++ drop (length text) old
+      → (write_numbers (Ok (length text)) ≡ (write_end (done text) old).numbers) × (new ≡ (write_end (done text) old).out)
   unfolding fitted
-  end-written new p l s = let b = le-leb (length text) (length old) l in (rw b, rw b (s.holds ∙ written_is old text l))
+  end-written l e = let b = le-leb (length text) (length old) l in (rw b, rw b e)
 
   -- a buffer that is long enough is not refused
   pub end_fits : length text ≤ length old → (write_end (done text) old).numbers ≡ 0 ∷ length text ∷ []
@@ -45,7 +29,7 @@ module _ (text old : List ℕ) where
   end_fits l = rw (le-leb (length text) (length old) l)
 
   -- what was written is in the buffer
-  pub written-fits : {len : ℕ} → write_numbers (Written len) ≡ (write_end (done text) old).numbers → len ≤ length old
+  pub written-fits : {len : ℕ} → write_numbers (Ok len) ≡ (write_end (done text) old).numbers → len ≤ length old
   unfolding fitted
   written-fits {len} e = let h = told-done count_of (demand (leb (length text) (length old)) ShortBuffer (done text)) e in go (leb (length text) (length old)) refl h.outcome h.says
     where

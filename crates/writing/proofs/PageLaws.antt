@@ -1,58 +1,61 @@
 -- A table put on a page: the edition, the steps and the edges one behind the other, for which there is room.
-use mathlib.Core.Path.{◌≡◌, sym, ap, subst, ◌∙◌}
+use mathlib.Core.Path.{◌≡◌, refl, ap, ◌∙◌}
 use mathlib.Core.List.{List, ◌++◌}
-use Prim.Native.Nat.{ℕ, ◌+◌, ◌≤◌, ◌<◌}
+use Prim.Native.Nat.{ℕ, ◌≤◌}
 use native.Mathlib.Omega.{arith}
-use lib.ListN.{length, take, length-append}
-use Rattle.table.specs.declared.types.Table.{Table}
-use Rattle.buffers.specs.Written.{Stored}
-use Rattle.encoding.specs.Limits.{number_limit, max_shortest}
-use Rattle.encoding.specs.Said.{Said}
+use lib.ListN.{length, get_or, length-append}
+use Rattle.graph.specs.declared.Edge.{Edge}
+use Rattle.graph.specs.Directed.{no_table_edge, own_edge}
+use Rattle.table.specs.Limits.{max_steps}
+use Rattle.table.specs.Table.{Contents}
+use Rattle.table.specs.Fair.{FairEdge, Fair}
+use Rattle.labels.proofs.PageLaws.{Parts}
+use Rattle.encoding.specs.Limits.{max_shortest}
+use Rattle.encoding.specs.Said.{said}
 use Rattle.encoding.specs.Shortest.{short_number, short_step, edition_for, short_edge, short_list, shortest}
+use Rattle.encoding.specs.Writable.{WritableSteps, WritableEdges}
 use Rattle.encoding.proofs.ShortLaws.{bytes_one}
-use Rattle.encoding.proofs.PutLaws.{Parts, pair_parts, table-parts, part-first, part_then, parts-stored}
+use Rattle.encoding.proofs.PutLaws.{table-parts}
 use Rattle.encoding.proofs.BoundLaws.{steps-bytes, edges-bytes, edition-low}
-use Rattle.writing.specs.Writable.{WritableTable, table_said}
 
--- the shortest table of a table that can be written
-pub table-bytes : (bytes : List ℕ) (t : Table) → WritableTable bytes t → length (shortest (table_said bytes t)) ≤ max_shortest
-table-bytes bytes t g =
-    let w = table_said bytes t in
-    let edition = edition_for w.edges in
-    let a = short_number edition in
-    let b = short_list short_step w.steps in
-    let c = short_list (short_edge edition) w.edges in
-    let whole = ap length (table-parts w).is ∙ length-append (a ++ b) c in
-    let front = length-append a b in
-    omega (arith, whole, front, bytes_one edition (omega (arith, edition-low w.edges)), steps-bytes bytes t.steps t.n g.steps, edges-bytes edition t.edges t.m g.edges)
+-- the limits of an edge in a table of n steps are those in a table of more
+more-steps : (n k : ℕ) (e : Edge) → n ≤ k → FairEdge n e → FairEdge k e
+more-steps n k e h f =
+    record {
+      from_in = omega (arith, f.from_in);
+      to_in = omega (arith, f.to_in);
+      apart = f.apart;
+      gap_some = f.gap_some;
+      gap_low = f.gap_low;
+      weight_low = f.weight_low;
+    }
 
-module _ (bytes : List ℕ) (t : Table) (g : WritableTable bytes t) (page : List ℕ) (wide : max_shortest ≤ length page) {edition : ℕ} (is : edition ≡ edition_for (take t.m t.edges)) where
-  abbrev w : Said
-  w = table_said bytes t
+module _ {bytes : List ℕ} {c : Contents} (fair : Fair bytes c) where
+  -- what writing the lists asks for
+  pub writable-steps : WritableSteps bytes c.steps
+  writable-steps = record { few = fair.few_steps; each_step = fair.each_step }
 
-  abbrev front : List ℕ
-  front = short_number edition ++ short_list short_step w.steps
+  pub writable-edges : WritableEdges c.edges
+  writable-edges =
+      record {
+        few = fair.few_edges;
+        each_edge = λ i h. more-steps (length c.steps) max_steps (own_edge (get_or c.edges i no_table_edge)) fair.few_steps (fair.each_edge i h);
+      }
 
-  whole : Parts (shortest w) front (short_list (short_edge edition) w.edges)
-  whole = subst (λ x. Parts (shortest w) (short_number x ++ short_list short_step w.steps) (short_list (short_edge x) w.edges)) (sym is) (table-parts w)
+  -- and how many bytes they have at most
+  pub edition-bytes : length (short_number (edition_for c.edges)) ≡ 1
+  edition-bytes = bytes_one (edition_for c.edges) (omega (arith, edition-low c.edges))
 
-  fits : 0 + length (shortest w) ≤ length page
-  fits = omega (arith, table-bytes bytes t g)
+  pub fair-bytes : length (shortest (said bytes c)) ≤ max_shortest
+  fair-bytes =
+      let w = said bytes c in
+      let edition = edition_for w.edges in
+      let a = short_number edition in
+      let b = short_list short_step w.steps in
+      let d = short_list (short_edge edition) w.edges in
+      let whole = ap length (table-parts w).is ∙ length-append (a ++ b) d in
+      omega (arith, whole, length-append a b, edition-bytes, steps-bytes bytes c.steps writable-steps, edges-bytes edition c.edges writable-edges)
 
-  pub page-number : (edition < number_limit) × (0 + length (short_number edition) ≤ length page)
-  page-number =
-      (omega (arith, is, edition-low w.edges), part-first (pair_parts (short_number edition) (short_list short_step w.steps)) page 0 (part-first whole page 0 fits))
-
-  module _ {page₁ : List ℕ} {p : ℕ} (s : Stored page 0 (short_number edition) page₁ p) where
-    pub page-steps : p + length (short_list short_step w.steps) ≤ length page₁
-    page-steps = part_then (pair_parts (short_number edition) (short_list short_step w.steps)) page 0 (part-first whole page 0 fits) s
-
-    module _ {page₂ : List ℕ} {q : ℕ} (u : Stored page₁ p (short_list short_step w.steps) page₂ q) where
-      on-front : Stored page 0 front page₂ q
-      on-front = parts-stored (pair_parts (short_number edition) (short_list short_step w.steps)) page 0 s u
-
-      pub page-edges : q + length (short_list (short_edge edition) w.edges) ≤ length page₂
-      page-edges = part_then whole page 0 fits on-front
-
-      pub page-stored : {page₃ : List ℕ} {o : ℕ} → Stored page₂ q (short_list (short_edge edition) w.edges) page₃ o → Stored page 0 (shortest w) page₃ o
-      page-stored v = parts-stored whole page 0 on-front v
+-- two texts one behind the other
+pub front-parts : (a b : List ℕ) → Parts (a ++ b) a b
+front-parts a b = record { is = refl }

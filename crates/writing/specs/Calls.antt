@@ -1,12 +1,11 @@
 -- The call of the writer: what it answers, and what the lent buffer holds at its end.
-use Rattle.std.specs.Prelude.{List, [], ◌∷◌, ◌++◌, ℕ, leb, length, drop}
+use Rattle.std.specs.Prelude.{List, [], ◌∷◌, ◌++◌, ℕ, leb, length, drop, Result}
+use Rattle.outcome.specs.declared.Refusal.{Refusal}
 use Rattle.outcome.specs.declared.Refusal.TheVariants.{ShortBuffer}
-use Rattle.outcome.specs.Refusal.{Outcome, done, refused, then_do, demand, numbers_of, told}
+use Rattle.outcome.specs.Refusal.{Outcome, done, refused, then_do, demand, told, answered}
 use Rattle.table.specs.declared.rule.Rule.{Rule}
 use Rattle.table.specs.declared.rule.Rule.TheVariants.{Shortest}
 use Rattle.table.specs.Table.{read_by}
-use Rattle.writing.specs.declared.WriteAnswer.{WriteAnswer}
-use Rattle.writing.specs.declared.WriteAnswer.TheVariants.{Written, Refused}
 use Rattle.encoding.specs.Said.{said}
 use Rattle.encoding.specs.Shortest.{shortest}
 
@@ -16,6 +15,11 @@ shortened_by rule bytes = then_do (read_by rule bytes) λ c. done (shortest (sai
 
 abbrev pub shortened : List ℕ → Outcome (List ℕ)
 shortened bytes = shortened_by Shortest bytes
+
+-- the bytes of an outcome, of which a refusal has none
+abbrev pub text_of : Outcome (List ℕ) → List ℕ
+text_of (done text) = text
+text_of (refused r) = []
 
 -- what is written, to a buffer that is lent: one with fewer bytes is refused (13), after every other fault
 unfoldable pub fitted : Outcome (List ℕ) → List ℕ → Outcome (List ℕ)
@@ -45,6 +49,5 @@ abbrev pub write_call : List ℕ → List ℕ → WriteEnd
 write_call bytes old = write_call_by Shortest bytes old
 
 -- what the code answers, in numbers
-abbrev pub write_numbers : WriteAnswer → List ℕ
-write_numbers (Written len) = 0 ∷ len ∷ []
-write_numbers (Refused r) = numbers_of r
+abbrev pub write_numbers : Result ℕ Refusal → List ℕ
+write_numbers r = answered (λ len. len ∷ []) r

@@ -1,5 +1,4 @@
 -- The call of the writer, and what a table can say.
 pub mod Calls
 pub mod Sayable
-pub mod Writable
 pub mod Starred

@@ -1,14 +1,13 @@
 use mathlib.Core.Path.{◌≡◌}
-use lib.ListN.{length}
 use Rattle.graph.specs.Rows.{at}
 use Rattle.drain.proofs.DrainLaws.{Draining}
 use Rattle.drain.proofs.drain_node.Given as goal
 
 abbrev pub invariant-loop-amount : goal.invariant-loop-amount
 invariant-loop-amount l =
-    Draining l.from l.to l.gap l.weight l.n l.s l.initial.y l.initial.supply l.y l.flow l.supply l.demand l.rank l.parent l.capacity
-    × (l.amount ≡ at l.supply l.s) × (length l.queue ≡ length l.initial.queue)
+    Draining l.net.arcs.from.now l.net.arcs.to.now l.net.arcs.gap.now l.net.weight.now l.net.arcs.n l.s l.initial.y l.initial.stock.supply.now l.y l.flow
+    l.stock.supply.now l.stock.demand.now l.tree.rank.now l.tree.parent.now l.tree.capacity.now
+    × (l.amount ≡ at l.stock.supply.now l.s)
 
 abbrev pub decreases-loop-amount : goal.decreases-loop-amount
-decreases-loop-amount l =
-    at l.supply l.s
+decreases-loop-amount l = at l.stock.supply.now l.s

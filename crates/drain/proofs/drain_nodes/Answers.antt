@@ -1,23 +1,18 @@
 use mathlib.Core.Path.{sym, ap, subst}
 use Prim.Native.Nat.{ℕ, ◌<◌}
-use lib.ListN.{length}
+use native.Mathlib.Omega.{arith}
 use Rattle.buffers.specs.Lists.{sum}
-use Rattle.buffers.proofs.IndexLaws.{inside-same}
 use Rattle.drain.proofs.DriveLaws as laws
 use Rattle.drain.proofs.drain_nodes.Goals as goal
 
+pub drain_node-requires-clause-s_lt_n : goal.drain_node-requires-clause-s_lt_n
+drain_node-requires-clause-s_lt_n c =
+    omega (arith, (c.find_supply.ensures.some _ c.in-Some.is).0, c.loop-s.invariant.flows.supply_long)
+
 pub loop-s-smaller : goal.loop-s-smaller
 loop-s-smaller c =
-    let l = c.loop-s in
-    let d = c.drain_node.ensures in
-    subst (λ (x : ℕ). x < sum l.supply) (sym (ap sum d.empty))
-    (laws.sum-clear l.supply l.s
-    (inside-same l.s c.args.n (length l.supply) c.loop-s-test.true l.invariant.0.flows.supply_long)
-    (l.invariant.1.some c.loop-s-test.true))
+    let found = c.find_supply.ensures.some _ c.in-Some.is in
+    subst (λ (x : ℕ). x < sum c.loop-s.stock.supply.now) (sym (ap sum c.drain_node.ensures.empty)) (laws.sum-clear _ _ found.0 found.1)
 
 pub returns : goal.returns
-returns c =
-    let a = c.args in
-    let l = c.loop-s in
-    laws.calm-ends a.from.now a.to.now a.gap.now a.weight.now a.n a.y.now l.y l.flow l.supply
-    l.demand l.rank l.parent l.capacity l.s l.invariant.0 l.invariant.1 c.loop-s-test.false
+returns c = laws.calm-ends _ _ _ _ _ _ _ _ _ _ _ _ _ _ c.loop-s.invariant c.find_supply.ensures c.in_default.is

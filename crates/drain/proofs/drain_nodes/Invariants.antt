@@ -1,13 +1,11 @@
-use mathlib.Core.Path.{◌≡◌}
-use lib.ListN.{length}
-use Rattle.drain.specs.Drain.{Calm, NextSupply}
 use Rattle.buffers.specs.Lists.{sum}
+use Rattle.drain.specs.Drain.{Calm}
 use Rattle.drain.proofs.drain_nodes.Given as goal
 
 abbrev pub invariant-loop-s : goal.invariant-loop-s
 invariant-loop-s l =
-    Calm l.from l.to l.gap l.weight l.n l.initial.y l.y l.flow l.supply l.demand l.rank l.parent l.capacity × NextSupply l.n l.n l.supply l.s × (length l.queue ≡ length l.initial.queue)
+    Calm l.net.arcs.from.now l.net.arcs.to.now l.net.arcs.gap.now l.net.weight.now l.net.arcs.n l.initial.y l.y l.flow l.stock.supply.now l.stock.demand.now
+    l.tree.rank.now l.tree.parent.now l.tree.capacity.now
 
 abbrev pub decreases-loop-s : goal.decreases-loop-s
-decreases-loop-s l =
-    sum l.supply
+decreases-loop-s l = sum l.stock.supply.now

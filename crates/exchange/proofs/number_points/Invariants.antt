@@ -1,11 +1,7 @@
--- The entries before i are numbered, and the others as they were.
-use Prim.Native.Nat.{◌-◌}
-use lib.ListN.{length}
-use Rattle.exchange.proofs.RowLaws as laws
+-- The points so far are numbered.
+use mathlib.Core.Path.{◌≡◌}
+use Rattle.graph.specs.Search.{run}
 use Rattle.exchange.proofs.number_points.Given as goal
 
 abbrev pub invariant-loop-i : goal.invariant-loop-i
-invariant-loop-i l = laws.Numbering l.initial.order l.order l.i
-
-abbrev pub decreases-loop-i : goal.decreases-loop-i
-decreases-loop-i l = length l.initial.order - l.i
+invariant-loop-i l = l.order.items ≡ run 0 l.i

@@ -1,14 +1,25 @@
 use mathlib.Core.Path.{sym, ◌∙◌}
 use native.Mathlib.Omega.{arith}
-use Rattle.fewest.proofs.TurnLaws.{Turning}
+use Rattle.std.proofs.lemmas.Slice.Eq.{slice_eq-Decides}
+use Rattle.std.proofs.lemmas.Bool.Decides.{Decides-eqb}
 use Rattle.fewest.proofs.TurnLaws as laws
 use Rattle.fewest.proofs.improve_drawing.Goals as goal
 
-pub returns-then-is_same : goal.returns-then-is_same
-returns-then-is_same c = laws.turning-still c.loop-k-test.true c.loop-k.invariant.0 c.pass_both-fewest.ensures (sym (c.is_same.ensures.a_value c.if-is_same.true) ∙ c.copy_all.ensures)
+pub returns-then-eq : goal.returns-then-eq
+returns-then-eq c =
+    let e = (slice_eq-Decides Decides-eqb _ _ _ c.eq.ensures).0 c.if-eq.true in
+    laws.turning-still c.loop-test.true c.loop.invariant.0 c.pass_both-fewest.ensures.bettered (sym e ∙ c.copy_from_slice.ensures.after)
 
-pub loop-k-preserved : goal.loop-k-preserved
-loop-k-preserved c = (laws.turning-more c.loop-k-test.true c.loop-k.invariant.0 c.pass_both-fewest.ensures, omega (arith, c.loop-k.invariant.1), omega (arith, c.loop-k.invariant.2), omega (arith, c.loop-k.invariant.3), omega (arith, c.loop-k.invariant.4), omega (arith, c.loop-k.invariant.5), omega (arith, c.loop-k.invariant.6))
+pub loop-preserved : goal.loop-preserved
+loop-preserved c = (
+  laws.turning-more c.loop-test.true c.loop.invariant.0 c.pass_both-fewest.ensures.bettered,
+  omega (arith, c.loop.invariant.1),
+  omega (arith, c.loop.invariant.2),
+  omega (arith, c.loop.invariant.3),
+  omega (arith, c.loop.invariant.4, c.pass_both-fewest.ensures.totals_kept),
+  omega (arith, c.loop.invariant.5, c.pass_both-fewest.ensures.moved_kept),
+  omega (arith, c.loop.invariant.6),
+)
 
 pub returns : goal.returns
-returns c = laws.turning-end c.loop-k-test.false c.loop-k.invariant.0
+returns c = laws.turning-end c.loop-test.false c.loop.invariant.0

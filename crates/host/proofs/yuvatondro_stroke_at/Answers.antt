@@ -2,7 +2,9 @@
 use mathlib.Core.Path.{◌≡◌, sym, ap, subst, ◌∙◌}
 use mathlib.Core.List.{List}
 use Prim.Native.Nat.{ℕ}
-use Rattle.strokes.specs.declared.StrokeAnswer.{StrokeAnswer}
+use Rattle.std.specs.Prelude.{Option, Result}
+use Rattle.outcome.specs.declared.Refusal.{Refusal}
+use Rattle.corners.specs.declared.Stroke.{Stroke}
 use Rattle.strokes.specs.Calls.{stroke_call, AnswerExact}
 use Rattle.words.specs.Words.{stroke_read}
 use Rattle.plain.specs.declared.PlainStroke.{PlainStroke}
@@ -10,7 +12,7 @@ use Rattle.plain.specs.Plain.{stroke_numbers, plain_answer, PlainExact}
 use Rattle.plain.proofs.PlainLaws.{step_fits, stroke-read, plain-exact}
 use Rattle.host.proofs.yuvatondro_stroke_at.Goals as goal
 
-handed : (bytes : List ℕ) (i : ℕ) (a : StrokeAnswer) (p : PlainStroke) → a ≡ stroke_call bytes i → AnswerExact bytes i a → p ≡ plain_answer a
+handed : (bytes : List ℕ) (i : ℕ) (a : Result (Option Stroke) Refusal) (p : PlainStroke) → a ≡ stroke_call bytes i → AnswerExact bytes i a → p ≡ plain_answer a
     → (stroke_read p.answer ≡ stroke_numbers (stroke_call bytes i)) × ((p ≡ plain_answer (stroke_call bytes i)) × PlainExact bytes i p)
 handed bytes i a p is exact e =
     let fits = step_fits bytes i a is in (

@@ -1,87 +1,53 @@
-use mathlib.Core.Path.{sym}
-use Prim.Native.Nat.{◌≤◌, ◌<◌}
+use mathlib.Core.Path.{sym, ap, ◌∙◌}
 use native.Mathlib.Omega.{arith}
-use lib.Seq.{length-take-le}
-use Rattle.table.specs.Limits.{max_edges}
-use Rattle.merging.proofs.MergingLaws.{merging-none, few-so-far, joined-light, so-far-links, so-far-even, so-far-start, found-low, merging-join, merging_start}
+use lib.ListN.{length, set, length-set}
+use Rattle.arrayvec.proofs.ArrayVecLemmas.{items-with_items}
+use Rattle.merging.proofs.MergingLaws.{merging-none, few-so-far, joined-light, so-far-links, so-far-start, found-low, merging-join, merging_start}
 use Rattle.merging.proofs.merge_edges.Goals as goal
-use Rattle.merging.proofs.merge_edges.Goals.{then-slot-gt0, else-slot-gt0}
+use Rattle.merging.proofs.merge_edges.Goals.{in-Some, in-None}
 
 pub loop-i-init : goal.loop-i-init
-loop-i-init c = (rw c.blank_list-list.ensures (merging-none _), omega arith)
+loop-i-init c = rw (c.new-list.ensures, c.new-keys.ensures, c.new-next.ensures) (merging-none _)
 
-pub slice_bounds-keys-end : goal.slice_bounds-keys-end
-slice_bounds-keys-end c =
-    let b : c.loop-i.count < max_edges = few-so-far _ _ c.requires _ c.loop-i-test.true _ _ _ _ _ c.loop-i.invariant.0 in
-    omega (arith, b, c.loop-i.invariant.0.chained.keys_long)
+pub find_slot-requires-clause-links : goal.find_slot-requires-clause-links
+find_slot-requires-clause-links c =
+    let held = c.loop-i.invariant in
+    rw (c.deref.ensures.0, c.deref-in-loop-i.ensures.0) (so-far-links _ c.requires _ c.loop-i-test.true _ _ _ _ held, omega (arith, held.chained.keys_long, held.chained.next_long))
 
-pub slice_bounds-find_slot-end : goal.slice_bounds-find_slot-end
-slice_bounds-find_slot-end c =
-    let b : c.loop-i.count < max_edges = few-so-far _ _ c.requires _ c.loop-i-test.true _ _ _ _ _ c.loop-i.invariant.0 in
-    sym (length-take-le _ _ (omega (arith, b, c.loop-i.invariant.0.chained.keys_long)))
+pub find_slot-requires-clause-start_in_bounds : goal.find_slot-requires-clause-start_in_bounds
+find_slot-requires-clause-start_in_bounds c =
+    rw c.deref-in-loop-i.ensures.0 (so-far-start _ c.requires _ c.loop-i-test.true _ _ _ _ c.loop-i.invariant)
 
-pub slice_bounds-next-end : goal.slice_bounds-next-end
-slice_bounds-next-end c =
-    let b : c.loop-i.count < max_edges = few-so-far _ _ c.requires _ c.loop-i-test.true _ _ _ _ _ c.loop-i.invariant.0 in
-    omega (arith, b, c.loop-i.invariant.0.chained.next_long)
-
-pub slice_bounds-find_slot-end-in-loop-i : goal.slice_bounds-find_slot-end-in-loop-i
-slice_bounds-find_slot-end-in-loop-i c =
-    let b : c.loop-i.count < max_edges = few-so-far _ _ c.requires _ c.loop-i-test.true _ _ _ _ _ c.loop-i.invariant.0 in
-    sym (length-take-le _ _ (omega (arith, b, c.loop-i.invariant.0.chained.next_long)))
-
-pub join_edge-requires : goal.join_edge-requires
-join_edge-requires c =
+pub joined-requires : goal.joined-requires
+joined-requires c =
     let inside = c.loop-i-test.true in
-    let low : c.find_slot-slot.result ≤ c.loop-i.count = found-low _ _ c.requires _ inside _ _ _ _ _ c.loop-i.invariant.0 _ _ c.key_of-key.ensures c.find_slot-slot.ensures in
-    joined-light _ _ c.requires _ inside _ _ _ _ _ c.loop-i.invariant.0 _ (omega (arith, low, c.if-slot-gt0.true))
+    let held = c.loop-i.invariant in
+    let low = found-low _ c.requires _ inside _ _ _ _ held _ _ _ c.deref.ensures.0 c.deref-in-loop-i.ensures.0 c.key_of-key.ensures _ c.in-Some.ensures in
+    rw c.deref-in-Some.ensures.0 (joined-light _ c.requires _ inside _ _ _ _ held _ low)
 
-pub offset_bounds-list-count : goal.offset_bounds-list-count
-offset_bounds-list-count c =
-    let b : c.loop-i.count < max_edges = few-so-far _ _ c.requires _ c.loop-i-test.true _ _ _ _ _ c.loop-i.invariant.0 in
-    omega (arith, b)
+pub push-requires : goal.push-requires
+push-requires c = (omega arith, few-so-far _ c.requires _ c.loop-i-test.true _ _ _ _ c.loop-i.invariant)
 
-pub bounds-list-count : goal.bounds-list-count
-bounds-list-count c = few-so-far _ _ c.requires _ c.loop-i-test.true _ _ _ _ _ c.loop-i.invariant.0
+pub push-requires-in-None : goal.push-requires-in-None
+push-requires-in-None c =
+    let held = c.loop-i.invariant in
+    (omega arith, omega (arith, few-so-far _ c.requires _ c.loop-i-test.true _ _ _ _ held, held.chained.keys_long))
 
-pub offset_bounds-keys-count : goal.offset_bounds-keys-count
-offset_bounds-keys-count c =
-    let b : c.loop-i.count < max_edges = few-so-far _ _ c.requires _ c.loop-i-test.true _ _ _ _ _ c.loop-i.invariant.0 in
-    omega (arith, b)
-
-pub bounds-keys-count : goal.bounds-keys-count
-bounds-keys-count c = few-so-far _ _ c.requires _ c.loop-i-test.true _ _ _ _ _ c.loop-i.invariant.0
-
-pub offset_bounds-next-count : goal.offset_bounds-next-count
-offset_bounds-next-count c =
-    let b : c.loop-i.count < max_edges = few-so-far _ _ c.requires _ c.loop-i-test.true _ _ _ _ _ c.loop-i.invariant.0 in
-    omega (arith, b)
-
-pub bounds-next-count : goal.bounds-next-count
-bounds-next-count c = few-so-far _ _ c.requires _ c.loop-i-test.true _ _ _ _ _ c.loop-i.invariant.0
-
-pub overflow_add-count : goal.overflow_add-count
-overflow_add-count c =
-    let b : c.loop-i.count < max_edges = few-so-far _ _ c.requires _ c.loop-i-test.true _ _ _ _ _ c.loop-i.invariant.0 in
-    omega (arith, b)
-
-pub find_slot-slot-requires : goal.find_slot-slot-requires
-find_slot-slot-requires c =
-    let inside = c.loop-i-test.true in
-    let held = c.loop-i.invariant.0 in
-    record {
-      links = (so-far-links _ _ c.requires _ inside _ _ _ _ _ held, so-far-even _ _ c.requires _ inside _ _ _ _ _ held);
-      start_in_bounds = so-far-start _ _ c.requires _ inside _ _ _ _ _ held;
-    }
+pub push-requires-in-None-2 : goal.push-requires-in-None-2
+push-requires-in-None-2 c =
+    let held = c.loop-i.invariant in
+    (omega arith, omega (arith, few-so-far _ c.requires _ c.loop-i-test.true _ _ _ _ held, held.chained.next_long))
 
 pub loop-i-preserved : goal.loop-i-preserved
 loop-i-preserved c =
     let inside = c.loop-i-test.true in
-    let again = merging-join _ _ c.requires _ inside _ _ _ _ _ c.loop-i.invariant.0 _ _ c.key_of-key.ensures c.find_slot-slot.ensures in
-    let first = merging_start _ _ c.requires _ inside _ _ _ _ _ c.loop-i.invariant.0 _ _ c.key_of-key.ensures c.find_slot-slot.ensures in (
-      elim c.if-slot-gt0.branch [
-        | then-slot-gt0 w ↦ again _ (omega (arith, w.if-slot-gt0.true)) _ _ _ _ _ _ w.join_edge.ensures w.list-is w.keys-is w.next-is w.heads-is w.count-is
-        | else-slot-gt0 w ↦ first w.if-slot-gt0.false _ _ _ _ _ _ w.start_edge.ensures w.list-is w.keys-is w.next-is w.heads-is w.count-is
-      ],
-      omega arith,
-    )
+    let held = c.loop-i.invariant in
+    let again = merging-join _ c.requires _ inside _ _ _ _ held _ _ _ c.deref.ensures.0 c.deref-in-loop-i.ensures.0 c.key_of-key.ensures in
+    let first = merging_start _ c.requires _ inside _ _ _ _ held _ _ _ c.deref.ensures.0 c.deref-in-loop-i.ensures.0 c.key_of-key.ensures in
+    elim c.match-find_slot.branch [
+      | in-Some w ↦ again _ w.in-Some.ensures _ _ _ _ _ _ w.deref-in-Some.ensures.0 w.joined.ensures
+          (ap (λ x. x.items) w.list-is ∙ items-with_items c.loop-i.list _ (length-set _ _ _ ∙ ap length w.deref_mut.ensures.value) ∙ ap (λ l. set l w.in-Some.place w.joined.result) w.deref_mut.ensures.value) (ap (λ x. x.items) w.keys-is) (ap (λ x. x.items) w.next-is) w.heads-is
+      | in-None w ↦ first w.in-None.ensures _ _ _ _ _ _ w.alone.ensures
+          (w.len.ensures.value ∙ ap (λ x. length x.items) (sym w.next-is)) (ap (λ x. x.items) w.list-is ∙ w.push.ensures.items)
+          (ap (λ x. x.items) w.keys-is ∙ w.push-in-None.ensures.items) (ap (λ x. x.items) w.next-is ∙ w.push-in-None-2.ensures.items) w.heads-is
+    ]

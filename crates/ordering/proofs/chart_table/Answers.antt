@@ -1,42 +1,35 @@
--- A table or rows that are refused have no chart; the arrays of others hold the edges, which of them are turned, and their best rows.
-use mathlib.Core.Path.{ap}
-use Rattle.layering.specs.Calls.{PlaceEnd}
-use Rattle.layering.proofs.CallLaws.{table_here, table-flags, table-found}
-use Rattle.ordering.proofs.CallLaws.{table-refused, taken, table-few, table-long, table-solved, table-drawn, chart-end}
+-- A table or rows that are refused have no chart; the edges of others, which of them are turned, and their best rows make one.
+use Rattle.std.specs.Prelude.{Err, Ok}
+use Rattle.std.proofs.lemmas.Result.{err_from_is_err_and}
+use Rattle.layering.proofs.CallLaws.{place-found, place-refused}
+use Rattle.ordering.proofs.CallLaws.{table-refused, flags-long, table-given, table-drawn, drawn-end, refused-end}
 use Rattle.ordering.proofs.chart_table.Goals as goal
 
+pub returns-in_err-table : goal.returns-in_err-table
+returns-in_err-table c =
+    let p = err_from_is_err_and c.from_residual.result c.from_residual.ensures.1 in
+    let k = table-refused _ (place-refused _ c.in_err-table.ensures.result_value) in
+    rw (p.1, p.2) (record { result_value = refused-end _ k; table_found = k })
+
 pub draw_edges-requires-clause-rows_given : goal.draw_edges-requires-clause-rows_given
-draw_edges-requires-clause-rows_given c = let same = table_here _ c.place_table-placed.result c.place_table-placed.ensures.result_value c.place_table-placed.ensures.table_best in
-    let set = table-flags _ c.place_table-placed.result c.place_table-placed.ensures.result_value c.place_table-placed.ensures.table_best in
-    let placed = table-found _ c.place_table-placed.result c.place_table-placed.ensures.result_value c.place_table-placed.ensures.table_best in
-    let t = taken _ _ _ _ same set placed c.in-Accepted.is in table-solved _ _ _ _ same set placed c.in-Accepted.is t
+draw_edges-requires-clause-rows_given c =
+    let p = place-found _ {r = c.in_ok-table.field-0} c.in_ok-table.ensures.result_value c.in_ok-table.ensures.table_best in
+    rw (c.deref.ensures.0, c.deref-2.ensures.0) (table-given _ p)
 
-pub returns-in-Refused-clause-result_value : goal.returns-in-Refused-clause-result_value
-returns-in-Refused-clause-result_value c = let same = table_here _ c.place_table-placed.result c.place_table-placed.ensures.result_value c.place_table-placed.ensures.table_best in
-    let set = table-flags _ c.place_table-placed.result c.place_table-placed.ensures.result_value c.place_table-placed.ensures.table_best in
-    let placed = table-found _ c.place_table-placed.result c.place_table-placed.ensures.result_value c.place_table-placed.ensures.table_best in
-    let found = table-refused _ _ _ _ same set placed c.in-Refused.is _ c.refuse_chart.ensures in chart-end _ _ (ap (λ (x : PlaceEnd). x.table) c.place_table-placed.ensures.result_value) (ap (λ (x : PlaceEnd). x.turned) c.place_table-placed.ensures.result_value) found
+pub draw_edges-requires-clause-turned_len : goal.draw_edges-requires-clause-turned_len
+draw_edges-requires-clause-turned_len c =
+    let p = place-found _ {r = c.in_ok-table.field-0} c.in_ok-table.ensures.result_value c.in_ok-table.ensures.table_best in
+    rw (c.deref.ensures.0, c.deref-2.ensures.0) (flags-long _ p)
 
-pub returns-in-Accepted-clause-result_value : goal.returns-in-Accepted-clause-result_value
-returns-in-Accepted-clause-result_value c = let same = table_here _ c.place_table-placed.result c.place_table-placed.ensures.result_value c.place_table-placed.ensures.table_best in
-    let set = table-flags _ c.place_table-placed.result c.place_table-placed.ensures.result_value c.place_table-placed.ensures.table_best in
-    let placed = table-found _ c.place_table-placed.result c.place_table-placed.ensures.result_value c.place_table-placed.ensures.table_best in
-    let found = table-drawn _ _ _ _ same set placed c.in-Accepted.is (taken _ _ _ _ same set placed c.in-Accepted.is) _ c.draw_edges.ensures in chart-end _ _ (ap (λ (x : PlaceEnd). x.table) c.place_table-placed.ensures.result_value) (ap (λ (x : PlaceEnd). x.turned) c.place_table-placed.ensures.result_value) found
+pub returns-in_err-chart : goal.returns-in_err-chart
+returns-in_err-chart c =
+    let q = err_from_is_err_and c.from_residual-in_err-chart.result c.from_residual-in_err-chart.ensures.1 in
+    let p = place-found _ {r = c.in_ok-table.field-0} c.in_ok-table.ensures.result_value c.in_ok-table.ensures.table_best in
+    let k = table-drawn _ p {c = Err c.in_err-chart.field-0.0} (rw (c.deref.ensures.0, c.deref-2.ensures.0) at c.in_err-chart.ensures) in
+    rw (q.1, q.2) (record { result_value = refused-end _ k; table_found = k })
 
-pub returns-in-Refused-clause-table_found : goal.returns-in-Refused-clause-table_found
-returns-in-Refused-clause-table_found c = let same = table_here _ c.place_table-placed.result c.place_table-placed.ensures.result_value c.place_table-placed.ensures.table_best in
-    let set = table-flags _ c.place_table-placed.result c.place_table-placed.ensures.result_value c.place_table-placed.ensures.table_best in
-    let placed = table-found _ c.place_table-placed.result c.place_table-placed.ensures.result_value c.place_table-placed.ensures.table_best in
-    let found = table-refused _ _ _ _ same set placed c.in-Refused.is _ c.refuse_chart.ensures in found
-
-pub draw_edges-requires-clause-m_le_max_edges : goal.draw_edges-requires-clause-m_le_max_edges
-draw_edges-requires-clause-m_le_max_edges c = let same = table_here _ c.place_table-placed.result c.place_table-placed.ensures.result_value c.place_table-placed.ensures.table_best in
-    let set = table-flags _ c.place_table-placed.result c.place_table-placed.ensures.result_value c.place_table-placed.ensures.table_best in
-    let placed = table-found _ c.place_table-placed.result c.place_table-placed.ensures.result_value c.place_table-placed.ensures.table_best in
-    let t = taken _ _ _ _ same set placed c.in-Accepted.is in (table-few _ _ _ _ same set placed c.in-Accepted.is t, table-long _ _ _ _ same set placed c.in-Accepted.is t)
-
-pub returns-in-Accepted-clause-table_found : goal.returns-in-Accepted-clause-table_found
-returns-in-Accepted-clause-table_found c = let same = table_here _ c.place_table-placed.result c.place_table-placed.ensures.result_value c.place_table-placed.ensures.table_best in
-    let set = table-flags _ c.place_table-placed.result c.place_table-placed.ensures.result_value c.place_table-placed.ensures.table_best in
-    let placed = table-found _ c.place_table-placed.result c.place_table-placed.ensures.result_value c.place_table-placed.ensures.table_best in
-    let found = table-drawn _ _ _ _ same set placed c.in-Accepted.is (taken _ _ _ _ same set placed c.in-Accepted.is) _ c.draw_edges.ensures in found
+pub returns : goal.returns
+returns c =
+    let p = place-found _ {r = c.in_ok-table.field-0} c.in_ok-table.ensures.result_value c.in_ok-table.ensures.table_best in
+    let k = table-drawn _ p {c = Ok c.in_ok-chart.chart} (rw (c.deref.ensures.0, c.deref-2.ensures.0) at c.in_ok-chart.ensures) in
+    record { result_value = drawn-end _ p k; table_found = k }

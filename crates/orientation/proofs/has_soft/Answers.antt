@@ -1,12 +1,12 @@
-use native.Mathlib.Omega.{arith}
-use Rattle.orientation.proofs.SoftLaws.{soft-more, soft-found, soft-all}
+use mathlib.Core.Path.{◌∙◌}
+use borrow.Author.Rules.{rules}
+use Rattle.std.proofs.lemmas.Iterator.{YieldsList-from_slice}
+use Rattle.std.proofs.lemmas.Iterator.Search.{any_from_yields_List}
+use Rattle.graph.specs.declared.TableEdge.{TableEdge}
+use Rattle.orientation.proofs.GatherLaws.{soft-any}
 use Rattle.orientation.proofs.has_soft.Goals as goal
 
-pub returns-then-e : goal.returns-then-e
-returns-then-e c = soft-found c.loop-i.invariant.0 (omega arith) (omega arith) c.if-e.true
-
-pub loop-i-preserved : goal.loop-i-preserved
-loop-i-preserved c = (soft-more c.loop-i.invariant.0 (omega arith) (omega arith) c.if-e.false, omega arith)
-
 pub returns : goal.returns
-returns c = soft-all c.loop-i.invariant.0 (omega arith) (omega arith)
+returns c =
+    any_from_yields_List (λ (e : TableEdge). e.soft) _ _ _ c.any.ensures.ran (YieldsList-from_slice c.args.edges.now (search rules)) (λ x b q k. search rules)
+    ∙ soft-any c.args.edges.now

@@ -1,4 +1,4 @@
--- `pass_up` meets its contract: what is left of the pass, the rows before row r - 1, gives the whole.
+-- What is left of the pass, the rows before row r - 1, gives the whole.
 use mathlib.Core.Path.{◌≡◌}
 use Prim.Native.Nat.{◌≤◌}
 use lib.ListN.{length}
@@ -7,7 +7,6 @@ use Rattle.passes.proofs.PassLaws.{GoingUp}
 use Rattle.passes.proofs.pass_up.Given as goal
 
 abbrev pub invariant-loop-r : goal.invariant-loop-r
-invariant-loop-r l = GoingUp l.lower l.head l.next l.counts (rows_held l.first) l.r l.first l.initial.order l.initial.pos l.order l.pos × (length l.order ≡ length l.initial.order) × (length l.pos ≡ length l.initial.pos) × (length l.totals ≡ length l.initial.totals) × (length l.moved ≡ length l.initial.moved) × (l.r ≤ rows_held l.first)
-
-abbrev pub decreases-loop-r : goal.decreases-loop-r
-decreases-loop-r l = l.r
+invariant-loop-r l = let s = l.side in
+    GoingUp s.far.now s.head.now s.next.now s.counts.now (rows_held l.first) l.r l.first l.initial.order l.initial.pos l.order l.pos
+    × (length l.work.totals.now ≡ length l.initial.work.totals.now) × (length l.work.moved.now ≡ length l.initial.work.moved.now) × (l.r ≤ rows_held l.first)

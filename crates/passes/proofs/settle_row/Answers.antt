@@ -1,4 +1,4 @@
--- `settle_row` meets its contract: the row is put in order by the sums of this moment, and then its positions are stored.
+-- The row is put in order by the sums of this moment, and then its positions are stored.
 use mathlib.Core.Path.{refl}
 use native.Mathlib.Omega.{arith}
 use Rattle.passes.proofs.SettleLaws as laws
@@ -16,20 +16,14 @@ slice_bounds-row-start c = omega (arith, laws.starts-rise c.requires.standing c.
 pub slice_bounds-row-end : goal.slice_bounds-row-end
 slice_bounds-row-end c = omega (arith, laws.starts-rise c.requires.standing c.requires.r_bound, laws.ends-within c.requires.standing c.requires.r_bound)
 
-pub total_row-requires : goal.total_row-requires
-total_row-requires c = laws.row-summable c.requires.standing c.requires.r_bound
+pub reorder_row-requires-clause-summable : goal.reorder_row-requires-clause-summable
+reorder_row-requires-clause-summable c = laws.row-summable c.requires.standing c.requires.r_bound
 
-pub reorder_row-requires : goal.reorder_row-requires
-reorder_row-requires c = laws.row-ready c.requires.standing c.requires.r_bound (omega arith) c.total_row.ensures
+pub reorder_row-requires-clause-counted : goal.reorder_row-requires-clause-counted
+reorder_row-requires-clause-counted c = laws.row_counted c.requires.standing c.requires.r_bound
 
-pub returns : goal.returns
-returns c = laws.settle-changes c.requires.r_bound c.total_row.ensures c.reorder_row.ensures refl c.place_row.ensures
+pub place_row-requires : goal.place_row-requires
+place_row-requires c = laws.now-points c.requires.standing c.requires.r_bound c.reorder_row.ensures.totalled c.reorder_row.ensures.arranged
 
-pub place_row-requires-clause-a_le_b : goal.place_row-requires-clause-a_le_b
-place_row-requires-clause-a_le_b c = laws.starts-rise c.requires.standing c.requires.r_bound
-
-pub place_row-requires-clause-b_in_bounds : goal.place_row-requires-clause-b_in_bounds
-place_row-requires-clause-b_in_bounds c = laws.now-within c.requires.standing c.requires.r_bound c.total_row.ensures c.reorder_row.ensures
-
-pub place_row-requires-clause-below : goal.place_row-requires-clause-below
-place_row-requires-clause-below c = laws.now-points c.requires.standing c.requires.r_bound c.total_row.ensures c.reorder_row.ensures
+pub returns-clause-changed : goal.returns-clause-changed
+returns-clause-changed c = laws.settle-changes c.requires.r_bound c.reorder_row.ensures.totalled c.reorder_row.ensures.arranged refl c.place_row.ensures

@@ -1,41 +1,61 @@
--- The arrays hold the auxiliary network once both parts of it are written; the solver takes it, and its rows at the points are the best x.
-use mathlib.Core.Path.{sym}
-use Rattle.spacing.proofs.ExtendLaws.{extends-join}
-use Rattle.spacing.proofs.BuildLaws.{blank-room, pulls-room, fits-from, fits-to, fits-gap, fits-weight, part-from, part-to, part-gap, part-weight, parts-network, parts-bounded, found-x}
+-- The list holds the auxiliary network; the solver takes it, and its rows at the points are the best x.
+use mathlib.Core.Path.{ap, ◌∙◌}
+use mathlib.Core.List.{List, ◌++◌}
+use Prim.Native.Nat.{◌-◌}
+use native.Mathlib.Omega.{arith}
+use lib.ListN.{length}
+use Rattle.graph.specs.declared.Edge.{Edge}
+use Rattle.spacing.specs.Flat.{besides}
+use Rattle.spacing.proofs.ExtendLaws.{besides-few}
+use Rattle.spacing.proofs.BuildLaws.{written, links-within, links-network, links-bounded, links-sizes, found-x}
 use Rattle.spacing.proofs.find_x.Goals as goal
 
-pub slice_bounds-from-end : goal.slice_bounds-from-end
-slice_bounds-from-end c = fits-from _ _ _ _ _ c.requires (extends-join c.link_points-k.ensures c.link_segments-m.ensures) blank-room
+pub link_segments-requires-clause-room : goal.link_segments-requires-clause-room
+link_segments-requires-clause-room c =
+    let row = c.args.row.now in
+    let order = c.args.order.now in
+    omega (
+      arith,
+      ap length (c.link_points.ensures ∙ ap (λ (l : List Edge). l ++ besides row order (length order - 1)) c.new-links.ensures),
+      besides-few row order (length order - 1),
+      c.requires.few,
+      c.requires.priced.few,
+    )
 
-pub slice_bounds-solve_links-end : goal.slice_bounds-solve_links-end
-slice_bounds-solve_links-end c = sym (part-from _ _ _ _ _ c.requires (extends-join c.link_points-k.ensures c.link_segments-m.ensures) blank-room)
+pub arcs-requires : goal.arcs-requires
+arcs-requires c =
+    let l = written _ _ c.new-links.ensures c.link_points.ensures c.link_segments.ensures in
+    (omega arith, links-within _ _ _ _ _ c.requires c.link_segments.new.links l)
 
-pub slice_bounds-to-end : goal.slice_bounds-to-end
-slice_bounds-to-end c = fits-to _ _ _ _ _ c.requires (extends-join c.link_points-k.ensures c.link_segments-m.ensures) blank-room
+pub invariant_of-net : goal.invariant_of-net
+invariant_of-net c =
+    let l = written _ _ c.new-links.ensures c.link_points.ensures c.link_segments.ensures in
+    let e = c.arcs.ensures in
+    record { network = rw (e.from, e.to, e.gap, e.nodes, c.deref.ensures.0) (links-network _ _ _ _ _ c.requires c.link_segments.new.links l) }
 
-pub slice_bounds-solve_links-end-2 : goal.slice_bounds-solve_links-end-2
-slice_bounds-solve_links-end-2 c = sym (part-to _ _ _ _ _ c.requires (extends-join c.link_points-k.ensures c.link_segments-m.ensures) blank-room)
+pub best_rows-requires-clause-bounded : goal.best_rows-requires-clause-bounded
+best_rows-requires-clause-bounded c =
+    let l = written _ _ c.new-links.ensures c.link_points.ensures c.link_segments.ensures in
+    let e = c.arcs.ensures in
+    rw (e.from, e.to, e.gap, e.nodes) (links-bounded _ _ _ _ _ c.requires c.link_segments.new.links l)
 
-pub slice_bounds-gap-end : goal.slice_bounds-gap-end
-slice_bounds-gap-end c = fits-gap _ _ _ _ _ c.requires (extends-join c.link_points-k.ensures c.link_segments-m.ensures) blank-room
+pub best_rows-requires-clause-few_nodes : goal.best_rows-requires-clause-few_nodes
+best_rows-requires-clause-few_nodes c =
+    let l = written _ _ c.new-links.ensures c.link_points.ensures c.link_segments.ensures in
+    rw c.arcs.ensures.nodes (links-sizes _ _ _ _ _ c.requires c.link_segments.new.links l).0
 
-pub slice_bounds-solve_links-end-3 : goal.slice_bounds-solve_links-end-3
-slice_bounds-solve_links-end-3 c = sym (part-gap _ _ _ _ _ c.requires (extends-join c.link_points-k.ensures c.link_segments-m.ensures) blank-room)
+pub best_rows-requires-clause-few_edges : goal.best_rows-requires-clause-few_edges
+best_rows-requires-clause-few_edges c =
+    let l = written _ _ c.new-links.ensures c.link_points.ensures c.link_segments.ensures in
+    rw c.arcs.ensures.from (links-sizes _ _ _ _ _ c.requires c.link_segments.new.links l).1
 
-pub slice_bounds-weight-end : goal.slice_bounds-weight-end
-slice_bounds-weight-end c = fits-weight _ _ _ _ _ c.requires (extends-join c.link_points-k.ensures c.link_segments-m.ensures) blank-room
-
-pub slice_bounds-solve_links-end-4 : goal.slice_bounds-solve_links-end-4
-slice_bounds-solve_links-end-4 c = sym (part-weight _ _ _ _ _ c.requires (extends-join c.link_points-k.ensures c.link_segments-m.ensures) blank-room)
+pub best_rows-requires-clause-n_in_bounds : goal.best_rows-requires-clause-n_in_bounds
+best_rows-requires-clause-n_in_bounds c =
+    let l = written _ _ c.new-links.ensures c.link_points.ensures c.link_segments.ensures in
+    rw c.arcs.ensures.nodes (links-sizes _ _ _ _ _ c.requires c.link_segments.new.links l).0
 
 pub returns : goal.returns
-returns c = found-x _ _ _ _ _ c.requires (extends-join c.link_points-k.ensures c.link_segments-m.ensures) blank-room _ c.solve_links.ensures
-
-pub link_segments-m-requires-clause-edges_room : goal.link_segments-m-requires-clause-edges_room
-link_segments-m-requires-clause-edges_room c = pulls-room _ _ _ _ _ c.requires c.link_points-k.ensures
-
-pub solve_links-requires-clause-network : goal.solve_links-requires-clause-network
-solve_links-requires-clause-network c = let e = extends-join c.link_points-k.ensures c.link_segments-m.ensures in parts-network _ _ _ _ _ c.requires e blank-room
-
-pub solve_links-requires-clause-bounded : goal.solve_links-requires-clause-bounded
-solve_links-requires-clause-bounded c = let e = extends-join c.link_points-k.ensures c.link_segments-m.ensures in parts-bounded _ _ _ _ _ c.requires e blank-room
+returns c =
+    let l = written _ _ c.new-links.ensures c.link_points.ensures c.link_segments.ensures in
+    let e = c.arcs.ensures in
+    found-x _ _ _ _ _ c.requires c.link_segments.new.links l _ (rw (e.from, e.to, e.gap, e.nodes, c.deref.ensures.0) at c.best_rows.ensures.1.best) c.best_rows.auto.y

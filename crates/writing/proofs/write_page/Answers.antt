@@ -1,15 +1,26 @@
--- The edition, the steps and the edges one behind the other.
-use Rattle.writing.proofs.PageLaws.{page-number, page-steps, page-edges, page-stored}
+-- What was read is put on the page, and a refusal is the reader's.
+use Rattle.std.proofs.Common.{arith, rules, ap}
+use Rattle.outcome.specs.Refusal.{told, bare}
+use Rattle.table.proofs.FairLaws.{read-fair-by}
+use Rattle.table.proofs.AnswerLaws.{read-refused-by, read-accepted-by}
+use Rattle.writing.proofs.CallLaws.{made-of, made-none}
 use Rattle.writing.proofs.write_page.Goals as goal
 
-pub write_steps-next-requires-clause-steps_in_bounds : goal.write_steps-next-requires-clause-steps_in_bounds
-write_steps-next-requires-clause-steps_in_bounds c = page-steps c.args.bytes.now c.args.table c.requires.writable_table c.args.page.now c.requires.max_shortest_in_bounds c.edition_for-edition.ensures c.write_number-next.ensures
+pub returns-in_err-table-clause-result_value : goal.returns-in_err-table-clause-result_value
+returns-in_err-table-clause-result_value g c =
+    let e = ap (told bare) (made-none c.args.rule c.args.bytes.now (read-refused-by c.args.rule c.args.bytes.now c.in_err-table.ensures)) in search (rules, e)
 
-pub returns : goal.returns
-returns c = page-stored c.args.bytes.now c.args.table c.requires.writable_table c.args.page.now c.requires.max_shortest_in_bounds c.edition_for-edition.ensures c.write_number-next.ensures c.write_steps-next.ensures c.write_edges.ensures
+pub returns-in_err-table-clause-page_after : goal.returns-in_err-table-clause-page_after
+returns-in_err-table-clause-page_after g c =
+    let e = made-none c.args.rule c.args.bytes.now (read-refused-by c.args.rule c.args.bytes.now c.in_err-table.ensures) in rw e (search rules)
 
-pub write_edges-requires-clause-edges_in_bounds : goal.write_edges-requires-clause-edges_in_bounds
-write_edges-requires-clause-edges_in_bounds c = page-edges c.args.bytes.now c.args.table c.requires.writable_table c.args.page.now c.requires.max_shortest_in_bounds c.edition_for-edition.ensures c.write_number-next.ensures c.write_steps-next.ensures
+pub put_table-requires : goal.put_table-requires
+put_table-requires g c = (search rules, (read-fair-by c.args.rule c.args.bytes.now (read-accepted-by c.args.rule c.args.bytes.now c.in_ok-table.ensures), omega arith))
 
-pub write_number-next-requires-clause-v_in_bounds : goal.write_number-next-requires-clause-v_in_bounds
-write_number-next-requires-clause-v_in_bounds c = (page-number c.args.bytes.now c.args.table c.requires.writable_table c.args.page.now c.requires.max_shortest_in_bounds c.edition_for-edition.ensures).1
+pub returns-clause-result_value : goal.returns-clause-result_value
+returns-clause-result_value g c =
+    let e = made-of c.args.rule c.args.bytes.now (read-accepted-by c.args.rule c.args.bytes.now c.in_ok-table.ensures) in rw e
+
+pub returns-clause-page_after : goal.returns-clause-page_after
+returns-clause-page_after g c =
+    let e = made-of c.args.rule c.args.bytes.now (read-accepted-by c.args.rule c.args.bytes.now c.in_ok-table.ensures) in rw e c.put_table.ensures

@@ -7,7 +7,7 @@ use Rattle.acyclic.proofs.SetLaws.{room}
 use Rattle.acyclic.proofs.settle.settle_rows.Given as goal
 
 abbrev pub invariant-loop-i : goal.invariant-loop-i
-invariant-loop-i l = (length l.y ≡ length l.initial.y) × (l.start ≤ length l.from) × Capped l.cap l.y
+invariant-loop-i l = (length l.y ≡ length l.initial.y) × (l.start ≤ length l.arcs.from.now) × Capped l.cap l.y
 
 abbrev pub decreases-loop-i : goal.decreases-loop-i
 decreases-loop-i l = room l.cap l.y

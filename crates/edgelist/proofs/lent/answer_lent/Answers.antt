@@ -1,6 +1,13 @@
--- What was found is handed out, whatever edges the arrays were made of.
+-- What was found is handed out, whatever edges the lists were made of.
+use mathlib.Core.Path.{refl}
+use Rattle.std.proofs.lemmas.Result.{err_from_is_err_and}
 use Rattle.edgelist.proofs.LentLaws.{lent-answered}
 use Rattle.edgelist.proofs.lent.answer_lent.Goals as goal
 
+pub returns-in_err-found : goal.returns-in_err-found
+returns-in_err-found c =
+    let p = err_from_is_err_and c.from_residual.result c.from_residual.ensures.1 in
+    rw (p.1, p.2) (lent-answered c.in_err-found.ensures (record { numbers = refl; rows = refl }))
+
 pub returns : goal.returns
-returns c = lent-answered _ _ _ _ _ _ _ c.place_lent-found.ensures c.hand_out.ensures
+returns c = lent-answered c.in_ok-found.ensures c.hand_out.ensures

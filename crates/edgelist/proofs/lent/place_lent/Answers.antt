@@ -1,20 +1,24 @@
 -- The outcome by cases: too many steps, too many edges, the first fault, or the rows of the edges.
-use mathlib.Core.Path.{sym}
-use native.Mathlib.Omega.{arith}
+use Rattle.std.proofs.lemmas.Result.{err_from_is_err_and}
 use Rattle.edgelist.proofs.LentLaws.{lent-many-steps, lent-many-edges, lent-fault, lent-fair, lent_placed}
 use Rattle.edgelist.proofs.lent.place_lent.Goals as goal
 
 pub returns-then-n-gt-MAX_STEPS : goal.returns-then-n-gt-MAX_STEPS
-returns-then-n-gt-MAX_STEPS c = lent-many-steps _ _ _ c.if-n-gt-MAX_STEPS.true _ c.refuse_rows.ensures
-
-pub returns-in-Refused : goal.returns-in-Refused
-returns-in-Refused c = lent-fault _ _ _ c.if-n-gt-MAX_STEPS.false c.requires c.if-m-gt-MAX_EDGES.false (sym c.in-Refused.ensures) _ c.refuse_rows-in-Refused.ensures
-
-pub returns-in-Accepted : goal.returns-in-Accepted
-returns-in-Accepted c = lent_placed _ _ _ c.if-n-gt-MAX_STEPS.false c.requires c.if-m-gt-MAX_EDGES.false (sym c.in-Accepted.ensures) _ c.place_edges.ensures
+returns-then-n-gt-MAX_STEPS c = lent-many-steps _ _ c.args.flat.now c.if-n-gt-MAX_STEPS.true
 
 pub returns-then-m-gt-MAX_EDGES : goal.returns-then-m-gt-MAX_EDGES
-returns-then-m-gt-MAX_EDGES c = lent-many-edges _ _ _ c.if-n-gt-MAX_STEPS.false (omega arith) _ c.refuse_rows-then-m-gt-MAX_EDGES.ensures
+returns-then-m-gt-MAX_EDGES c = lent-many-edges _ _ c.args.flat.now c.if-n-gt-MAX_STEPS.false c.if-m-gt-MAX_EDGES.true
 
-pub place_edges-requires-clause-fair_edges : goal.place_edges-requires-clause-fair_edges
-place_edges-requires-clause-fair_edges c = lent-fair _ _ _ c.if-n-gt-MAX_STEPS.false c.requires c.if-m-gt-MAX_EDGES.false (sym c.in-Accepted.ensures)
+pub returns-in_err-judge_edges : goal.returns-in_err-judge_edges
+returns-in_err-judge_edges c =
+    let p = err_from_is_err_and c.from_residual.result c.from_residual.ensures.1 in
+    rw (p.1, p.2) (lent-fault _ _ c.args.flat.now c.if-n-gt-MAX_STEPS.false c.if-m-gt-MAX_EDGES.false c.judge_edges.ensures.few c.in_err-judge_edges.ensures.judged)
+
+pub place_edges-requires : goal.place_edges-requires
+place_edges-requires c =
+    lent-fair _ _ c.args.flat.now c.if-n-gt-MAX_STEPS.false c.if-m-gt-MAX_EDGES.false c.judge_edges.ensures.few c.in_ok-judge_edges.ensures.judged
+
+pub returns : goal.returns
+returns c =
+    lent_placed _ _ c.args.flat.now c.if-n-gt-MAX_STEPS.false c.if-m-gt-MAX_EDGES.false c.judge_edges.ensures.few c.in_ok-judge_edges.ensures.judged _
+    c.place_edges.ensures

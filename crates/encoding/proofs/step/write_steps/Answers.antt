@@ -1,24 +1,27 @@
-use Prim.Native.Nat.{◌+◌}
-use native.Mathlib.Omega.{arith}
-use lib.ListN.{get_or, take, drop}
+use Rattle.std.proofs.Common.{rules, arith, List, ℕ}
+use Rattle.table.specs.declared.types.Step.{Step}
 use Rattle.table.specs.Calls.{no_step}
-use Rattle.buffers.proofs.WriteLaws.{writing_start, writing-room, writing-part, writing-end}
+use Rattle.labels.proofs.PageLaws.{putting-room, putting-part, putting-end, parts-room, parts-put}
 use Rattle.encoding.specs.Said.{said_step}
-use Rattle.encoding.specs.Shortest.{short_step, each}
-use Rattle.encoding.proofs.PutLaws.{part-first, part_then, parts-stored, said-parts, items-next, items-end}
+use Rattle.encoding.specs.Shortest.{short_step}
+use Rattle.encoding.proofs.PutLaws.{said-parts, next-item, last-item}
 use Rattle.encoding.proofs.step.write_steps.Goals as goal
 
-pub loop-i-init : goal.loop-i-init
-loop-i-init c = (omega arith, writing_start _ _ _ (part_then (said-parts c.args.bytes.now c.args.steps c.args.n (omega (arith, c.requires.writable_steps.few, c.requires.writable_steps.long))) c.args.out.now c.args.at c.requires.steps_in_bounds c.write_number-next.ensures))
+-- a step of a table of these bytes as it is written
+abbrev written_in : List ℕ → Step → List ℕ
+written_in bytes s = short_step (said_step bytes s)
 
-pub loop-i-preserved : goal.loop-i-preserved
-loop-i-preserved c = (omega (arith, c.loop-i-test.true), writing-part (short_step (said_step c.args.bytes.now (get_or c.args.steps c.loop-i.i no_step))) (each (λ step. short_step (said_step c.args.bytes.now step)) (drop (c.loop-i.i + 1) (take c.args.n c.args.steps))) (items-next (λ step. short_step (said_step c.args.bytes.now step)) c.args.steps c.args.n (omega (arith, c.requires.writable_steps.few, c.requires.writable_steps.long)) no_step c.loop-i.i c.loop-i-test.true) c.loop-i.invariant.1 c.write_step-next.ensures)
+pub write_step-requires : goal.write_step-requires
+write_step-requires g c =
+    let behind = parts-room c.args.page.now.items (said-parts c.args.bytes.now c.args.steps.now) c.write_number.ensures in
+    let room = putting-room c.loop-step.invariant (next-item (written_in c.args.bytes.now) c.args.steps.now no_step c.loop-step.step-index c.loop-step-test.true) in
+    (search rules, (c.requires.writable_steps.each_step c.loop-step.step-index c.loop-step-test.true, omega arith))
 
-pub write_number-next-requires-clause-v_in_bounds : goal.write_number-next-requires-clause-v_in_bounds
-write_number-next-requires-clause-v_in_bounds c = part-first (said-parts c.args.bytes.now c.args.steps c.args.n (omega (arith, c.requires.writable_steps.few, c.requires.writable_steps.long))) c.args.out.now c.args.at c.requires.steps_in_bounds
-
-pub write_step-next-requires-clause-step_in_bounds : goal.write_step-next-requires-clause-step_in_bounds
-write_step-next-requires-clause-step_in_bounds c = writing-room (short_step (said_step c.args.bytes.now (get_or c.args.steps c.loop-i.i no_step))) (each (λ step. short_step (said_step c.args.bytes.now step)) (drop (c.loop-i.i + 1) (take c.args.n c.args.steps))) (items-next (λ step. short_step (said_step c.args.bytes.now step)) c.args.steps c.args.n (omega (arith, c.requires.writable_steps.few, c.requires.writable_steps.long)) no_step c.loop-i.i c.loop-i-test.true) c.loop-i.invariant.1
+pub loop-step-preserved : goal.loop-step-preserved
+loop-step-preserved g c =
+    putting-part c.loop-step.invariant (next-item (written_in c.args.bytes.now) c.args.steps.now no_step c.loop-step.step-index c.loop-step-test.true) c.write_step.ensures
 
 pub returns : goal.returns
-returns c = parts-stored (said-parts c.args.bytes.now c.args.steps c.args.n (omega (arith, c.requires.writable_steps.few, c.requires.writable_steps.long))) c.args.out.now c.args.at c.write_number-next.ensures (writing-end (items-end (λ step. short_step (said_step c.args.bytes.now step)) c.args.steps c.args.n (omega (arith, c.requires.writable_steps.few, c.requires.writable_steps.long)) c.loop-i.i c.loop-i-test.false) c.loop-i.invariant.1)
+returns g c =
+    parts-put c.args.page.now.items (said-parts c.args.bytes.now c.args.steps.now) c.write_number.ensures
+    (putting-end c.loop-step.invariant (last-item (written_in c.args.bytes.now) c.args.steps.now c.loop-step.step-index c.loop-step-test.false))

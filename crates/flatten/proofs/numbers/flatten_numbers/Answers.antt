@@ -1,41 +1,25 @@
-use mathlib.Core.Path.{sym}
+use mathlib.Core.Path.{sym, ◌∙◌}
 use native.Mathlib.Omega.{arith}
+use Rattle.flatten.specs.Records.{records_of}
+use Rattle.flatten.proofs.FlattenLaws.{copy-room, copy_more, copy-all, copied-few, copied-none}
 use Rattle.flatten.proofs.NumberLaws.{records-length}
-use Rattle.flatten.proofs.CopyLaws.{copying-none, copying-in, copying-more, copying-all}
 use Rattle.flatten.proofs.numbers.flatten_numbers.Goals as goal
 
-pub loop-i-init : goal.loop-i-init
-loop-i-init c = copying-none _ _ _ (sym (records-length c.args.numbers.now)) c.count_copied-end.ensures
+pub edge_at-requires : goal.edge_at-requires
+edge_at-requires c = omega (arith, records-length c.args.numbers.now)
 
-pub edge_at-e-requires : goal.edge_at-e-requires
-edge_at-e-requires c = (copying-in _ _ _ _ _ _ _ c.loop-i.invariant (omega arith)).0
-
-pub offset_bounds-from-i : goal.offset_bounds-from-i
-offset_bounds-from-i c = let h = copying-in _ _ _ _ _ _ _ c.loop-i.invariant (omega arith) in omega (arith, h)
-
-pub bounds-from-i : goal.bounds-from-i
-bounds-from-i c = let h = copying-in _ _ _ _ _ _ _ c.loop-i.invariant (omega arith) in omega (arith, h)
-
-pub offset_bounds-to-i : goal.offset_bounds-to-i
-offset_bounds-to-i c = let h = copying-in _ _ _ _ _ _ _ c.loop-i.invariant (omega arith) in omega (arith, h)
-
-pub bounds-to-i : goal.bounds-to-i
-bounds-to-i c = let h = copying-in _ _ _ _ _ _ _ c.loop-i.invariant (omega arith) in omega (arith, h)
-
-pub offset_bounds-gap-i : goal.offset_bounds-gap-i
-offset_bounds-gap-i c = let h = copying-in _ _ _ _ _ _ _ c.loop-i.invariant (omega arith) in omega (arith, h)
-
-pub bounds-gap-i : goal.bounds-gap-i
-bounds-gap-i c = let h = copying-in _ _ _ _ _ _ _ c.loop-i.invariant (omega arith) in omega (arith, h)
-
-pub offset_bounds-weight-i : goal.offset_bounds-weight-i
-offset_bounds-weight-i c = let h = copying-in _ _ _ _ _ _ _ c.loop-i.invariant (omega arith) in omega (arith, h)
-
-pub bounds-weight-i : goal.bounds-weight-i
-bounds-weight-i c = let h = copying-in _ _ _ _ _ _ _ c.loop-i.invariant (omega arith) in omega (arith, h)
+pub push-requires : goal.push-requires
+push-requires c =
+    let count = records-length c.args.numbers.now in (omega arith, copy-room (records_of c.args.numbers.now) _ _ c.loop-i.invariant (omega (arith, count)) (omega (arith, count)))
 
 pub loop-i-preserved : goal.loop-i-preserved
-loop-i-preserved c = copying-more _ _ _ _ _ _ _ c.loop-i.invariant (omega arith) _ c.edge_at-e.ensures
+loop-i-preserved c =
+    copy_more (records_of c.args.numbers.now) _ _ c.loop-i.invariant c.edge_at.result _ (omega (arith, records-length c.args.numbers.now)) c.edge_at.ensures c.push.ensures
 
-pub returns : goal.returns
-returns c = copying-all _ _ _ _ _ _ _ c.loop-i.invariant (omega arith)
+pub returns-after-loop-i : goal.returns-after-loop-i
+returns-after-loop-i c =
+    let count = records-length c.args.numbers.now in
+    copy-all (records_of c.args.numbers.now) _ _ c.loop-i.invariant (omega (arith, count)) ∙ sym (copied-few (records_of c.args.numbers.now) (omega (arith, count)))
+
+pub returns-else-count-le-MAX_EDGES : goal.returns-else-count-le-MAX_EDGES
+returns-else-count-le-MAX_EDGES c = c.new-flat.ensures ∙ sym (copied-none (records_of c.args.numbers.now) (omega (arith, records-length c.args.numbers.now)))

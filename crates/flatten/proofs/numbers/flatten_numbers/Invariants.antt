@@ -1,11 +1,9 @@
--- The first i edges stand in the arrays.
-use Prim.Native.Nat.{◌-◌}
+-- The first i edges are copied.
+use mathlib.Core.Path.{◌≡◌}
+use lib.ListN.{take}
+use Rattle.flatten.specs.Flat.{flat_edges}
 use Rattle.flatten.specs.Records.{records_of}
-use Rattle.flatten.proofs.CopyLaws.{Copying}
 use Rattle.flatten.proofs.numbers.flatten_numbers.Given as goal
 
 abbrev pub invariant-loop-i : goal.invariant-loop-i
-invariant-loop-i l = Copying (records_of l.numbers) l.end l.i l.from l.to l.gap l.weight
-
-abbrev pub decreases-loop-i : goal.decreases-loop-i
-decreases-loop-i l = l.end - l.i
+invariant-loop-i l = flat_edges l.flat ≡ take l.i (records_of l.numbers)

@@ -1,43 +1,13 @@
+use mathlib.Core.Path.{sym, ◌∙◌}
 use native.Mathlib.Omega.{arith}
-use mathlib.Core.Path.{refl}
-use Rattle.flatten.proofs.CopyLaws.{copying-none, copying-in, copying-more, copying-all}
+use Rattle.flatten.proofs.FlattenLaws.{copy-room, copy-all, copied-few, copied-none}
 use Rattle.flatten.proofs.records.flatten_records.Goals as goal
 
-pub offset_bounds-from-i : goal.offset_bounds-from-i
-offset_bounds-from-i c = let h = copying-in _ _ _ _ _ _ _ c.loop-i.invariant (omega arith) in omega (arith, h)
+pub push-requires : goal.push-requires
+push-requires c = (omega arith, copy-room c.args.records.now _ _ c.loop-e.invariant (omega arith) (omega arith))
 
-pub bounds-from-i : goal.bounds-from-i
-bounds-from-i c = let h = copying-in _ _ _ _ _ _ _ c.loop-i.invariant (omega arith) in omega (arith, h)
+pub returns-after-loop-e : goal.returns-after-loop-e
+returns-after-loop-e c = copy-all c.args.records.now _ _ c.loop-e.invariant (omega arith) ∙ sym (copied-few c.args.records.now (omega arith))
 
-pub offset_bounds-to-i : goal.offset_bounds-to-i
-offset_bounds-to-i c = let h = copying-in _ _ _ _ _ _ _ c.loop-i.invariant (omega arith) in omega (arith, h)
-
-pub bounds-to-i : goal.bounds-to-i
-bounds-to-i c = let h = copying-in _ _ _ _ _ _ _ c.loop-i.invariant (omega arith) in omega (arith, h)
-
-pub offset_bounds-gap-i : goal.offset_bounds-gap-i
-offset_bounds-gap-i c = let h = copying-in _ _ _ _ _ _ _ c.loop-i.invariant (omega arith) in omega (arith, h)
-
-pub bounds-gap-i : goal.bounds-gap-i
-bounds-gap-i c = let h = copying-in _ _ _ _ _ _ _ c.loop-i.invariant (omega arith) in omega (arith, h)
-
-pub offset_bounds-weight-i : goal.offset_bounds-weight-i
-offset_bounds-weight-i c = let h = copying-in _ _ _ _ _ _ _ c.loop-i.invariant (omega arith) in omega (arith, h)
-
-pub bounds-weight-i : goal.bounds-weight-i
-bounds-weight-i c = let h = copying-in _ _ _ _ _ _ _ c.loop-i.invariant (omega arith) in omega (arith, h)
-
-pub loop-i-preserved : goal.loop-i-preserved
-loop-i-preserved c = copying-more _ _ _ _ _ _ _ c.loop-i.invariant (omega arith) _ refl
-
-pub returns : goal.returns
-returns c = copying-all _ _ _ _ _ _ _ c.loop-i.invariant (omega arith)
-
-pub loop-i-init : goal.loop-i-init
-loop-i-init c = copying-none _ _ _ refl c.count_copied-end.ensures
-
-pub offset_bounds-records-i : goal.offset_bounds-records-i
-offset_bounds-records-i c = let h = copying-in _ _ _ _ _ _ _ c.loop-i.invariant (omega arith) in omega (arith, h)
-
-pub bounds-records-i : goal.bounds-records-i
-bounds-records-i c = (copying-in _ _ _ _ _ _ _ c.loop-i.invariant (omega arith)).0
+pub returns-else-records-le-MAX_EDGES : goal.returns-else-records-le-MAX_EDGES
+returns-else-records-le-MAX_EDGES c = c.new-flat.ensures ∙ sym (copied-none c.args.records.now (omega arith))

@@ -1,6 +1,8 @@
--- The first i records stand in the arrays.
-use Rattle.flatten.proofs.CopyLaws.{Copying}
+-- The first records are copied.
+use mathlib.Core.Path.{◌≡◌}
+use lib.ListN.{take}
+use Rattle.flatten.specs.Flat.{flat_edges}
 use Rattle.flatten.proofs.records.flatten_records.Given as goal
 
-abbrev pub invariant-loop-i : goal.invariant-loop-i
-invariant-loop-i l = Copying l.records l.end l.i l.from l.to l.gap l.weight
+abbrev pub invariant-loop-e : goal.invariant-loop-e
+invariant-loop-e l = flat_edges l.flat ≡ take l.e-index l.records

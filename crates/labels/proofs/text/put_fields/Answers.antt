@@ -1,18 +1,28 @@
-use mathlib.Core.List.{◌∷◌, map}
-use Rattle.graph.specs.Rows.{at}
-use Prim.Native.Nat.{◌+◌, ◌<◌}
-use native.Mathlib.Omega.{arith}
-use lib.ListN.{length, drop}
-use Rattle.buffers.proofs.WriteLaws.{writing-room, writing-part, writing-end}
+use Rattle.std.proofs.Common.{◌∷◌, ◌≡◌, ◌+◌, ◌≤◌, ◌<◌, [], List, ℕ, ap, map, drop, length, slice_index, add-one, arith, rules}
+use Rattle.std.proofs.Math.Seq.{drop-cons}
+use Rattle.std.proofs.lemmas.List.{drop_all}
 use Rattle.labels.specs.Text.{blank, decimal, blanked}
-use Rattle.labels.proofs.PutLaws.{fields-next, fields-over}
+use Rattle.labels.proofs.PageLaws.{Parts, putting-room, putting-part, putting-end}
 use Rattle.labels.proofs.text.put_fields.Goals as goal
 
-pub put_marked-next-requires : goal.put_marked-next-requires
-put_marked-next-requires c = writing-room (blank ∷ decimal (at c.args.values.now c.loop-i.i)) (blanked (map decimal (drop (c.loop-i.i + 1) c.args.values.now))) (fields-next c.args.values.now c.loop-i.i (let h-inside : c.loop-i.i < length c.args.values.now = omega (arith, c.loop-i-test.true, c.loop-i.invariant.0) in h-inside)) c.loop-i.invariant.2
+-- the next number and those behind it
+next-field : (values : List ℕ) (i : ℕ) → i < length values
+    → Parts (blanked (map decimal (drop i values))) (blank ∷ decimal (slice_index values i)) (blanked (map decimal (drop (i + 1) values)))
+unfolding blanked
+next-field values i h = record { is = rw (add-one, drop-cons values i 0) }
 
-pub loop-i-preserved : goal.loop-i-preserved
-loop-i-preserved c = (c.loop-i.invariant.0, omega (arith, (let h-inside : c.loop-i.i < length c.args.values.now = omega (arith, c.loop-i-test.true, c.loop-i.invariant.0) in h-inside)), writing-part _ _ (fields-next c.args.values.now c.loop-i.i (let h-inside : c.loop-i.i < length c.args.values.now = omega (arith, c.loop-i-test.true, c.loop-i.invariant.0) in h-inside)) c.loop-i.invariant.2 c.put_marked-next.ensures)
+last-field : (values : List ℕ) (i : ℕ) → length values ≤ i → blanked (map decimal (drop i values)) ≡ []
+unfolding blanked
+last-field values i h = ap (λ l. blanked (map decimal l)) (drop_all i values h)
+
+pub put_marked-requires : goal.put_marked-requires
+put_marked-requires g c =
+    let room = putting-room c.loop-value.invariant (next-field c.args.values.now c.loop-value.value-index c.loop-value-test.true) in
+    (search rules, omega arith)
+
+pub loop-value-preserved : goal.loop-value-preserved
+loop-value-preserved g c =
+    putting-part c.loop-value.invariant (next-field c.args.values.now c.loop-value.value-index c.loop-value-test.true) c.put_marked.ensures
 
 pub returns : goal.returns
-returns c = writing-end (fields-over c.args.values.now c.loop-i.i (omega (arith, c.loop-i.invariant.0, c.loop-i-test.false))) c.loop-i.invariant.2
+returns g c = putting-end c.loop-value.invariant (last-field c.args.values.now c.loop-value.value-index c.loop-value-test.false)

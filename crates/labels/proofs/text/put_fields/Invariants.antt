@@ -1,14 +1,8 @@
--- The numbers from i on are still to be written.
-use mathlib.Core.Path.{◌≡◌}
-use mathlib.Core.List.{map}
-use Prim.Native.Nat.{◌-◌, ◌≤◌}
-use lib.ListN.{length, drop}
-use Rattle.buffers.proofs.WriteLaws.{Writing}
+-- The numbers from the index on are still to be put.
+use Rattle.std.proofs.Common.{map, drop}
 use Rattle.labels.specs.Text.{decimal, blanked}
+use Rattle.labels.proofs.PageLaws.{Putting}
 use Rattle.labels.proofs.text.put_fields.Given as goal
 
-abbrev pub invariant-loop-i : goal.invariant-loop-i
-invariant-loop-i l = (l.i-end ≡ length l.values) × (l.i ≤ length l.values) × Writing l.initial.out l.at (blanked (map decimal l.values)) l.out l.next (blanked (map decimal (drop l.i l.values)))
-
-abbrev pub decreases-loop-i : goal.decreases-loop-i
-decreases-loop-i l = length l.values - l.i
+abbrev pub invariant-loop-value : goal.invariant-loop-value
+invariant-loop-value g l = Putting l.initial.page.items (blanked (map decimal l.values)) l.page.items (blanked (map decimal (drop l.value-index l.values)))

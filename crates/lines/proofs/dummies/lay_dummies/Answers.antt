@@ -1,40 +1,48 @@
-use mathlib.Core.Path.{refl, ap, ◌∙◌, subst}
-use mathlib.Core.List.{List, map}
-use Prim.Native.Nat.{ℕ, ◌<◌}
-use native.Mathlib.Omega.{arith}
-use lib.ListN.{length, get_or, take, length-map}
-use Rattle.graph.specs.declared.Edge.{Edge}
+use Rattle.std.proofs.Common.{arith, ◌-◌, get_or, suc}
 use Rattle.graph.specs.Rows.{at}
 use Rattle.merging.specs.Merged.{no_merged_edge, drawn_edges}
-use Rattle.points.specs.Points.{Dummy, dummies}
-use Rattle.buffers.proofs.WriteLaws.{writing_start, writing-room, writing-part, writing-end}
-use Rattle.lines.specs.Printing.{numbered, owners_of, dummy_rows}
-use Rattle.lines.proofs.LayLaws.{later, rows_between, laid-count, laid-edge, owners-count, no-owners, owners-turn, rows-turn, lay-end, between-length, owners-length}
+use Rattle.merging.proofs.SameLaws.{drawn-length}
+use Rattle.points.specs.Points.{dummies}
+use Rattle.buffers.proofs.RunLaws.{run_length}
+use Rattle.labels.proofs.PageLaws.{putting-room, putting-part, putting-end}
+use Rattle.lines.proofs.LayLaws.{rows_between, dummies-length, numbered-count, next-laid, last-laid, laid-edge, laid-down}
 use Rattle.lines.proofs.dummies.lay_dummies.Goals as goal
 
-pub loop-i-init : goal.loop-i-init
-loop-i-init c = let ds = dummies c.args.ys.now 0 (drawn_edges c.args.turned (take c.args.count c.args.list)) in (omega arith, writing_start _ _ _ (omega (arith, c.requires.owners_room, owners-count c.args.list ds)), writing_start _ _ _ (omega (arith, c.requires.rows_room, length-map ds (λ (d : Dummy). d.row))))
+pub offset_bounds-ys-e : goal.offset_bounds-ys-e
+offset_bounds-ys-e c = let d = laid-down c.requires c.loop-merged.merged-index c.loop-merged-test.true c.directed-e.ensures in omega (arith, d.from_in)
 
-pub bounds-ys-from : goal.bounds-ys-from
-bounds-ys-from c = subst (λ (e : Edge). e.from < length c.args.ys.now) (laid-edge c.args.turned c.args.list c.args.count (omega (arith, c.requires.few, c.requires.long)) c.loop-i.i c.loop-i-test.true c.direct_merged-d.ensures) (c.requires.from_in c.loop-i.i c.loop-i-test.true)
+pub bounds-ys-e : goal.bounds-ys-e
+bounds-ys-e c = (laid-down c.requires c.loop-merged.merged-index c.loop-merged-test.true c.directed-e.ensures).from_in
 
-pub bounds-ys-to : goal.bounds-ys-to
-bounds-ys-to c = subst (λ (e : Edge). e.to < length c.args.ys.now) (laid-edge c.args.turned c.args.list c.args.count (omega (arith, c.requires.few, c.requires.long)) c.loop-i.i c.loop-i-test.true c.direct_merged-d.ensures) (c.requires.to_in c.loop-i.i c.loop-i-test.true)
+pub offset_bounds-ys-e-in-loop-merged : goal.offset_bounds-ys-e-in-loop-merged
+offset_bounds-ys-e-in-loop-merged c = let d = laid-down c.requires c.loop-merged.merged-index c.loop-merged-test.true c.directed-e.ensures in omega (arith, d.to_in)
 
-pub loop-i-preserved : goal.loop-i-preserved
-loop-i-preserved c = (omega arith, writing-part (map (λ (_ : ℕ). ((get_or c.args.list c.loop-i.i no_merged_edge).first)) (rows_between c.args.ys.now c.direct_merged-d.result)) (owners_of (numbered c.args.list (later c.args.ys.now (drawn_edges c.args.turned (take c.args.count c.args.list)) c.loop-i.i))) (owners-turn c.args.ys.now (drawn_edges c.args.turned (take c.args.count c.args.list)) c.loop-i.i (omega (arith, (laid-count c.args.turned c.args.list c.args.count (omega (arith, c.requires.few, c.requires.long))), c.loop-i-test.true)) c.direct_merged-d.result (laid-edge c.args.turned c.args.list c.args.count (omega (arith, c.requires.few, c.requires.long)) c.loop-i.i c.loop-i-test.true c.direct_merged-d.ensures) c.args.list refl) c.loop-i.invariant.1 c.lay_edge-next.ensures.stored, writing-part (rows_between c.args.ys.now c.direct_merged-d.result) (dummy_rows (later c.args.ys.now (drawn_edges c.args.turned (take c.args.count c.args.list)) c.loop-i.i)) (rows-turn c.args.ys.now (drawn_edges c.args.turned (take c.args.count c.args.list)) c.loop-i.i (omega (arith, (laid-count c.args.turned c.args.list c.args.count (omega (arith, c.requires.few, c.requires.long))), c.loop-i-test.true)) c.direct_merged-d.result (laid-edge c.args.turned c.args.list c.args.count (omega (arith, c.requires.few, c.requires.long)) c.loop-i.i c.loop-i-test.true c.direct_merged-d.ensures)) c.loop-i.invariant.2 c.lay_edge-next.ensures.stored_2)
+pub bounds-ys-e-in-loop-merged : goal.bounds-ys-e-in-loop-merged
+bounds-ys-e-in-loop-merged c = (laid-down c.requires c.loop-merged.merged-index c.loop-merged-test.true c.directed-e.ensures).to_in
 
-pub lay_edge-next-requires-clause-top_lt_bottom : goal.lay_edge-next-requires-clause-top_lt_bottom
-lay_edge-next-requires-clause-top_lt_bottom c = (subst (λ (e : Edge). at c.args.ys.now e.from < at c.args.ys.now e.to) (laid-edge c.args.turned c.args.list c.args.count (omega (arith, c.requires.few, c.requires.long)) c.loop-i.i c.loop-i-test.true c.direct_merged-d.ensures) (c.requires.down c.loop-i.i c.loop-i-test.true))
+pub lay_edge-requires : goal.lay_edge-requires
+lay_edge-requires c =
+    let a = c.args in
+    let i = c.loop-merged.merged-index in
+    let d = c.directed-e.result in
+    let edges = drawn_edges a.turned.now a.list.now in
+    let here = laid-edge c.requires i c.loop-merged-test.true c.directed-e.ensures in
+    let room = putting-room c.loop-merged.invariant (next-laid a.list.now a.ys.now edges i (omega (arith, drawn-length a.turned.now a.list.now)) here) in
+    let on = dummies-length (get_or a.list.now i no_merged_edge).first (rows_between a.ys.now d) in
+    let between = run_length (suc (at a.ys.now d.from)) (at a.ys.now d.to - at a.ys.now d.from - 1) in (
+      omega arith,
+      ((laid-down c.requires i c.loop-merged-test.true c.directed-e.ensures).down, omega (arith, room, on, between, numbered-count a.list.now (dummies a.ys.now 0 edges), c.requires.room)),
+    )
 
-pub lay_edge-next-requires-clause-top_in_bounds : goal.lay_edge-next-requires-clause-top_in_bounds
-lay_edge-next-requires-clause-top_in_bounds c = (omega (arith, owners-length c.args.ys.now c.direct_merged-d.result ((get_or c.args.list c.loop-i.i no_merged_edge).first), writing-room (map (λ (_ : ℕ). ((get_or c.args.list c.loop-i.i no_merged_edge).first)) (rows_between c.args.ys.now c.direct_merged-d.result)) (owners_of (numbered c.args.list (later c.args.ys.now (drawn_edges c.args.turned (take c.args.count c.args.list)) c.loop-i.i))) (owners-turn c.args.ys.now (drawn_edges c.args.turned (take c.args.count c.args.list)) c.loop-i.i (omega (arith, (laid-count c.args.turned c.args.list c.args.count (omega (arith, c.requires.few, c.requires.long))), c.loop-i-test.true)) c.direct_merged-d.result (laid-edge c.args.turned c.args.list c.args.count (omega (arith, c.requires.few, c.requires.long)) c.loop-i.i c.loop-i-test.true c.direct_merged-d.ensures) c.args.list refl) c.loop-i.invariant.1))
+pub loop-merged-preserved : goal.loop-merged-preserved
+loop-merged-preserved c =
+    let a = c.args in
+    let here = laid-edge c.requires c.loop-merged.merged-index c.loop-merged-test.true c.directed-e.ensures in
+    putting-part c.loop-merged.invariant
+    (next-laid a.list.now a.ys.now (drawn_edges a.turned.now a.list.now) c.loop-merged.merged-index (omega (arith, drawn-length a.turned.now a.list.now)) here) c.lay_edge.ensures
 
-pub lay_edge-next-requires-clause-top_in_bounds_2 : goal.lay_edge-next-requires-clause-top_in_bounds_2
-lay_edge-next-requires-clause-top_in_bounds_2 c = (omega (arith, between-length c.args.ys.now c.direct_merged-d.result, writing-room (rows_between c.args.ys.now c.direct_merged-d.result) (dummy_rows (later c.args.ys.now (drawn_edges c.args.turned (take c.args.count c.args.list)) c.loop-i.i)) (rows-turn c.args.ys.now (drawn_edges c.args.turned (take c.args.count c.args.list)) c.loop-i.i (omega (arith, (laid-count c.args.turned c.args.list c.args.count (omega (arith, c.requires.few, c.requires.long))), c.loop-i-test.true)) c.direct_merged-d.result (laid-edge c.args.turned c.args.list c.args.count (omega (arith, c.requires.few, c.requires.long)) c.loop-i.i c.loop-i-test.true c.direct_merged-d.ensures)) c.loop-i.invariant.2))
-
-pub returns-clause-stored : goal.returns-clause-stored
-returns-clause-stored c = writing-end (ap (λ (l : List Dummy). owners_of (numbered c.args.list l)) (lay-end c.args.ys.now (drawn_edges c.args.turned (take c.args.count c.args.list)) c.loop-i.i (omega (arith, laid-count c.args.turned c.args.list c.args.count (omega (arith, c.requires.few, c.requires.long)), c.loop-i-test.false))) ∙ no-owners c.args.list) c.loop-i.invariant.1
-
-pub returns-clause-stored_2 : goal.returns-clause-stored_2
-returns-clause-stored_2 c = writing-end (ap dummy_rows (lay-end c.args.ys.now (drawn_edges c.args.turned (take c.args.count c.args.list)) c.loop-i.i (omega (arith, laid-count c.args.turned c.args.list c.args.count (omega (arith, c.requires.few, c.requires.long)), c.loop-i-test.false)))) c.loop-i.invariant.2
+pub returns : goal.returns
+returns c =
+    let a = c.args in
+    putting-end c.loop-merged.invariant
+    (last-laid a.list.now a.ys.now (drawn_edges a.turned.now a.list.now) c.loop-merged.merged-index (omega (arith, drawn-length a.turned.now a.list.now, c.loop-merged-test.false)))

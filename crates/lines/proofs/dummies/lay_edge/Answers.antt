@@ -1,27 +1,27 @@
-use mathlib.Core.Path.{subst, ap}
-use mathlib.Core.List.{map}
-use Prim.Native.Nat.{ℕ, suc, ◌-◌}
-use native.Mathlib.Omega.{arith}
-use lib.ListN.{length-map}
+use Rattle.std.proofs.Common.{rules, arith, ◌≡◌, ◌<◌, ◌+◌, ◌-◌, ℕ, [], ◌∷◌, ap, suc}
 use Rattle.graph.specs.Search.{run}
-use Rattle.buffers.proofs.WriteLaws.{Writing, writing_start, writing-next, writing-one, writing-end}
-use Rattle.buffers.proofs.RunLaws.{run_length, run-between, run-turn, run_end}
+use Rattle.buffers.proofs.RunLaws.{run_length, run-turn, run_end}
+use Rattle.labels.proofs.PageLaws.{Parts, putting-room, putting-part, putting-end}
+use Rattle.lines.specs.Printing.{dummies_on}
+use Rattle.lines.proofs.LayLaws.{dummies-length}
 use Rattle.lines.proofs.dummies.lay_edge.Goals as goal
 
-pub loop-r-init : goal.loop-r-init
-loop-r-init c = let s = c.args in (omega arith, subst (Writing _ _ _ _ _) (ap (map (λ (_ : ℕ). s.edge)) (run-between _ _)) (writing_start _ _ _ (omega (arith, c.requires.top_in_bounds, run_length (suc s.top) (s.bottom - s.top - 1), length-map (run (suc s.top) (s.bottom - s.top - 1)) (λ (_ : ℕ). s.edge)))), subst (Writing _ _ _ _ _) (run-between _ _) (writing_start _ _ _ (omega (arith, c.requires.top_in_bounds_2, run_length (suc s.top) (s.bottom - s.top - 1)))))
+-- the dummy in row r, and those below it
+next-dummy : (edge r bottom : ℕ) → r < bottom
+    → Parts (dummies_on edge (run r (bottom - r))) (record { edge = edge; row = r } ∷ []) (dummies_on edge (run (r + 1) (bottom - (r + 1))))
+next-dummy edge r bottom h = record { is = ap (dummies_on edge) (run-turn r bottom h) }
 
-pub bounds-owners-d : goal.bounds-owners-d
-bounds-owners-d c = writing-next _ _ (ap (map (λ (_ : ℕ). c.args.edge)) (run-turn _ _ c.loop-r-test.true)) c.loop-r.invariant.1
+pub push-requires : goal.push-requires
+push-requires g c =
+    let room = putting-room c.loop-row.invariant (next-dummy c.args.edge c.loop-row.row c.args.bottom c.loop-row-test.true) in
+    let count = dummies-length c.args.edge (run (suc c.args.top) (c.args.bottom - suc c.args.top)) in
+    (search rules, omega (arith, run_length (suc c.args.top) (c.args.bottom - suc c.args.top)))
 
-pub bounds-rows-d : goal.bounds-rows-d
-bounds-rows-d c = writing-next _ _ (run-turn _ _ c.loop-r-test.true) c.loop-r.invariant.2
+pub loop-row-preserved : goal.loop-row-preserved
+loop-row-preserved g c =
+    putting-part c.loop-row.invariant (next-dummy c.args.edge c.loop-row.row c.args.bottom c.loop-row-test.true) c.push.ensures.items
 
-pub loop-r-preserved : goal.loop-r-preserved
-loop-r-preserved c = (omega arith, writing-one _ _ (ap (map (λ (_ : ℕ). c.args.edge)) (run-turn _ _ c.loop-r-test.true)) c.loop-r.invariant.1, writing-one _ _ (run-turn _ _ c.loop-r-test.true) c.loop-r.invariant.2)
-
-pub returns-clause-stored : goal.returns-clause-stored
-returns-clause-stored c = writing-end (ap (map (λ (_ : ℕ). c.args.edge)) (run_end _ _ c.loop-r-test.false)) c.loop-r.invariant.1
-
-pub returns-clause-stored_2 : goal.returns-clause-stored_2
-returns-clause-stored_2 c = writing-end (run_end _ _ c.loop-r-test.false) c.loop-r.invariant.2
+pub returns : goal.returns
+returns g c =
+    let e : c.args.bottom - suc c.args.top ≡ c.args.bottom - c.args.top - 1 = omega arith in
+    rw (← e) (putting-end c.loop-row.invariant (ap (dummies_on c.args.edge) (run_end c.loop-row.row c.args.bottom c.loop-row-test.false)))

@@ -1,16 +1,14 @@
--- A refusal has its line, and any other outcome its chart.
-use Rattle.ordering.proofs.CallLaws.{chart-here, chart-turned}
-use Rattle.listing.proofs.CallLaws.{refusal-fits, refusal-stored}
+-- The line of a refusal is the listing of its table.
+use Rattle.std.proofs.Common.{arith, rules, ◌++◌, ◌∙◌, ap, sym}
+use Rattle.ordering.proofs.OpenedLaws.{found-refused}
+use Rattle.listing.proofs.CallLaws.{refusal_is, refusal-fits}
 use Rattle.listing.proofs.page.print_page.Goals as goal
 
 pub put_refusal-requires : goal.put_refusal-requires
-put_refusal-requires c = refusal-fits _ _ c.chart_table-charted.ensures.table_found c.in-Refused.is c.args.page.now c.requires
+put_refusal-requires g c =
+    let fits = refusal-fits c.args.bytes.now (found-refused c.args.bytes.now c.in-Err.ensures.table_found) in
+    (search rules, omega (arith, fits))
 
-pub returns-in-Refused : goal.returns-in-Refused
-returns-in-Refused c = refusal-stored _ _ c.chart_table-charted.ensures.table_found c.in-Refused.is c.put_refusal.ensures
-
-pub print_chart-requires-clause-turned_value : goal.print_chart-requires-clause-turned_value
-print_chart-requires-clause-turned_value c = chart-turned _ c.chart_table-charted.result c.chart_table-charted.ensures.result_value
-
-pub print_chart-requires-clause-table_value : goal.print_chart-requires-clause-table_value
-print_chart-requires-clause-table_value c = chart-here _ c.chart_table-charted.result c.chart_table-charted.ensures.result_value
+pub returns-in-Err : goal.returns-in-Err
+returns-in-Err g c =
+    c.put_refusal.ensures ∙ ap (λ l. c.args.page.now.items ++ l) (sym (refusal_is c.args.bytes.now (found-refused c.args.bytes.now c.in-Err.ensures.table_found)))

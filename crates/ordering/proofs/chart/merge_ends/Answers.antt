@@ -1,14 +1,25 @@
--- The merged edges in use are those of the edges, and so are their ends.
-use mathlib.Core.Path.{subst}
-use mathlib.Core.List.{List}
-use Rattle.graph.specs.declared.Edge.{Edge}
-use Rattle.ordering.specs.Charting.{Split}
-use Rattle.ordering.proofs.DrawnLaws.{directable, drawn-front}
+-- Each turn writes a merged edge in the direction of its first edge.
+use mathlib.Core.Path.{◌∙◌}
+use native.Mathlib.Omega.{arith}
+use Rattle.ordering.proofs.DrawnLaws.{first-in, drawn-more, drawn-room, drawn-all}
 use Rattle.ordering.proofs.chart.merge_ends.Goals as goal
 
-pub split_ends-requires : goal.split_ends-requires
-split_ends-requires c = directable _ _ _ c.requires.mergeable.few c.requires.mergeable.long _ c.merge_edges-all.ensures c.requires.turned_len
+pub bounds-turned-first : goal.bounds-turned-first
+bounds-turned-first c =
+    omega (arith, first-in c.args.edges.now (c.as_slice-line-items.ensures.value ∙ c.merge_edges-lines.ensures) c.loop-line.line-index c.loop-line-test.true, c.requires.turned_len)
+
+pub push-requires : goal.push-requires
+push-requires c = (
+  omega arith,
+  drawn-room c.args.edges.now (c.as_slice-line-items.ensures.value ∙ c.merge_edges-lines.ensures) c.loop-line.line-index c.loop-line-test.true c.args.turned.now
+      c.requires.mergeable.few c.loop-line.invariant,
+)
+
+pub loop-line-preserved : goal.loop-line-preserved
+loop-line-preserved c =
+    drawn-more c.args.edges.now (c.as_slice-line-items.ensures.value ∙ c.merge_edges-lines.ensures) c.loop-line.line-index c.loop-line-test.true c.args.turned.now
+    c.loop-line.invariant c.directed.ensures c.push.ensures
 
 pub returns : goal.returns
-returns c = subst (λ (l : List Edge). Split l c.split_ends.result.count c.split_ends.result.from c.split_ends.result.to c.split_ends.result.weight)
-    (drawn-front c.args.turned _ _ c.requires.mergeable.few c.requires.mergeable.long _ c.merge_edges-all.ensures) c.split_ends.ensures
+returns c =
+    drawn-all c.args.edges.now (c.as_slice-line-items.ensures.value ∙ c.merge_edges-lines.ensures) (omega arith) c.args.turned.now c.loop-line.invariant

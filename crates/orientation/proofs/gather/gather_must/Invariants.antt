@@ -1,10 +1,9 @@
--- The must edges of the first i edges stand in the first k entries.
-use Prim.Native.Nat.{◌-◌, ◌≤◌}
-use Rattle.orientation.proofs.GatherLaws.{Gathering}
+-- The must edges of the first edges are gathered.
+use mathlib.Core.Path.{◌≡◌}
+use lib.ListN.{take}
+use Rattle.acyclic.specs.Oriented.{must_of}
+use Rattle.flatten.specs.Flat.{flat_edges}
 use Rattle.orientation.proofs.gather.gather_must.Given as goal
 
-abbrev pub invariant-loop-i : goal.invariant-loop-i
-invariant-loop-i l = Gathering l.edges l.i l.k l.from l.to l.gap × (l.i ≤ l.m)
-
-abbrev pub decreases-loop-i : goal.decreases-loop-i
-decreases-loop-i l = l.m - l.i
+abbrev pub invariant-loop-e : goal.invariant-loop-e
+invariant-loop-e l = flat_edges l.must ≡ must_of (take l.e-index l.edges)

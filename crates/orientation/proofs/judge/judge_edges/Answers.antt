@@ -1,12 +1,15 @@
+use mathlib.Core.Path.{refl, ◌∙◌}
 use native.Mathlib.Omega.{arith}
-use Rattle.orientation.proofs.JudgeLaws.{judging-none, judging-more, judging-all, orientable-room}
+use Rattle.orientation.proofs.JudgeLaws.{judging-none, judging-more, judging-all}
 use Rattle.orientation.proofs.judge.judge_edges.Goals as goal
 
-pub loop-i-init : goal.loop-i-init
-loop-i-init c = (judging-none _ _ _ _ c.requires.closure, omega arith, omega arith)
+pub loop-e-init : goal.loop-e-init
+loop-e-init c = rw c.new-turned.ensures (refl, refl, judging-none _ _ _ c.requires.closure)
 
-pub loop-i-preserved : goal.loop-i-preserved
-loop-i-preserved c = (judging-more c.loop-i.invariant.0 c.requires.orientable.0.few_edges (orientable-room c.requires.orientable.0) (omega arith) c.judge_edge.ensures, omega (arith, c.loop-i.invariant.1, c.judge_edge.ensures.long), omega arith)
+pub loop-e-preserved : goal.loop-e-preserved
+loop-e-preserved c =
+    let held = c.loop-e.invariant in
+    (c.judge_edge.ensures.nodes ∙ held.0, omega (arith, c.push.ensures.len, held.1), rw c.push.ensures.items (judging-more held.2 c.loop-e-test.true (rw held.0 at c.judge_edge.ensures.judged)))
 
 pub returns : goal.returns
-returns c = judging-all c.loop-i.invariant.0 c.requires.orientable.0.few_edges (orientable-room c.requires.orientable.0) (omega arith) (omega arith)
+returns c = judging-all c.loop-e.invariant.2 (omega arith)

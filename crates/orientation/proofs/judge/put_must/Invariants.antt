@@ -1,12 +1,11 @@
--- The matrix is that of the must edges from i on.
+-- The matrix is that of the must edges among those that were taken, which are the last ones.
 use mathlib.Core.Path.{◌≡◌}
-use Prim.Native.Nat.{◌≤◌}
-use lib.ListN.{length}
-use Rattle.orientation.proofs.JudgeLaws.{Putting}
+use Prim.Native.Nat.{◌-◌}
+use lib.ListN.{length, drop}
+use Rattle.acyclic.specs.Oriented.{must_of}
+use Rattle.closure.specs.Closure.{Closure}
 use Rattle.orientation.proofs.judge.put_must.Given as goal
 
-abbrev pub invariant-loop-i : goal.invariant-loop-i
-invariant-loop-i l = Putting l.n l.m l.edges l.i l.reach × (length l.reach ≡ length l.initial.reach) × (l.i ≤ l.m)
-
-abbrev pub decreases-loop-i : goal.decreases-loop-i
-decreases-loop-i l = l.i
+abbrev pub invariant-loop-e : goal.invariant-loop-e
+invariant-loop-e l =
+    (l.walks.n ≡ l.initial.walks.n) × Closure l.initial.walks.n (must_of (drop (length l.edges - length l.yielded) l.edges)) l.walks.marks

@@ -1,12 +1,9 @@
--- The first i places are named, and the other entries are as they were.
+-- The points at the first i places are named, and the other entries are as they were.
 use mathlib.Core.Path.{◌≡◌}
-use Prim.Native.Nat.{◌-◌}
-use lib.ListN.{length}
-use Rattle.rearranging.proofs.NameLaws.{Naming}
+use mathlib.Core.List.{◌++◌, map}
+use lib.ListN.{take, drop}
+use Rattle.graph.specs.Rows.{at}
 use Rattle.rearranging.proofs.arrange.name_points.Given as goal
 
 abbrev pub invariant-loop-i : goal.invariant-loop-i
-invariant-loop-i l = (l.i-end ≡ length l.points) × Naming l.places l.points l.initial.out l.out l.i
-
-abbrev pub decreases-loop-i : goal.decreases-loop-i
-decreases-loop-i l = length l.points - l.i
+invariant-loop-i l = l.out ≡ take l.i (map (at l.points) l.places) ++ drop l.i l.initial.out

@@ -4,8 +4,10 @@ use Rattle.relaxation.specs.Limits.{row_limit}
 use Rattle.relaxation.specs.Relax.{Heights, headroom}
 use Rattle.relaxation.proofs.relax.lift_rows.Given as goal
 
-abbrev pub invariant-loop-n : goal.invariant-loop-n
-invariant-loop-n l = (length l.y ≡ length l.initial.y) × Heights l.from l.to l.gap l.flow l.n l.y × (drop l.n l.y ≡ drop l.n l.initial.y)
+abbrev pub invariant-loop : goal.invariant-loop
+invariant-loop l =
+    (length l.y ≡ length l.initial.y) × Heights l.arcs.from.now l.arcs.to.now l.arcs.gap.now l.flow l.arcs.n l.y
+    × (drop l.arcs.n l.y ≡ drop l.arcs.n l.initial.y)
 
-abbrev pub decreases-loop-n : goal.decreases-loop-n
-decreases-loop-n l = headroom row_limit l.y
+abbrev pub decreases-loop : goal.decreases-loop
+decreases-loop l = headroom row_limit l.y

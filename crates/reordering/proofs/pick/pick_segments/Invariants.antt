@@ -1,12 +1,9 @@
--- The segments of the row from k on are still to be stored.
-use mathlib.Core.Path.{◌≡◌}
-use Prim.Native.Nat.{◌-◌, ◌≤◌}
+-- The segments of the row that are left are still to be picked.
 use lib.ListN.{length}
 use Rattle.reordering.proofs.PickLaws.{Picking}
 use Rattle.reordering.proofs.pick.pick_segments.Given as goal
 
-abbrev pub invariant-loop-k : goal.invariant-loop-k
-invariant-loop-k l = (l.k-end ≡ length l.upper) × (l.k ≤ length l.upper) × Picking l.upper l.lower l.row l.pos l.r l.initial.high l.initial.low l.high l.low l.s l.k
-
-abbrev pub decreases-loop-k : goal.decreases-loop-k
-decreases-loop-k l = length l.upper - l.k
+abbrev pub invariant-loop-u : goal.invariant-loop-u
+invariant-loop-u l =
+    (goal.iterator-loop-u).can_next l.u-iterator × (goal.iterator-loop-u).is_finite l.u-iterator
+    × Picking l.chart.upper.now l.chart.lower.now l.chart.row.now l.pos l.r l.picked.items (length l.yielded)

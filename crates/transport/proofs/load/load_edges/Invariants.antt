@@ -1,10 +1,6 @@
-use Prim.Native.Nat.{◌-◌}
-use lib.ListN.{length}
 use Rattle.transport.proofs.LoadLaws.{Loading}
 use Rattle.transport.proofs.load.load_edges.Given as goal
 
 abbrev pub invariant-loop-e : goal.invariant-loop-e
-invariant-loop-e l = Loading l.from l.to l.gap l.weight l.n l.y l.flow l.supply l.demand l.e
-
-abbrev pub decreases-loop-e : goal.decreases-loop-e
-decreases-loop-e l = length l.from - l.e
+invariant-loop-e l =
+    Loading l.rows.arcs.from.now l.rows.arcs.to.now l.rows.arcs.gap.now l.weight l.rows.arcs.n l.rows.y.now l.flow l.stock.supply.now l.stock.demand.now l.e

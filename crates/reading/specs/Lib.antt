@@ -1,0 +1,2 @@
+-- What the reader's lists stand for.
+pub mod Lists
