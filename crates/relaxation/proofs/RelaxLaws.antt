@@ -75,46 +75,38 @@ module _ (from to gap flow : List ℕ) (n : ℕ) where
       lift-less (down u s e) = rw e (headroom-set top y (at from a) _ (le_trans (shape.from_in a h) fits) (omega arith)
           (omega (arith, below (at to a) (shape.to_in a h), hold.held.tight a h u, hold.low (at from a) (shape.from_in a h))))
 
--- Rows whose first n entries were replaced, by 0 or by rows that are heights already, are heights to relax on from.
-module _ (from to gap flow : List ℕ) (n : ℕ) (front old : List ℕ) (fits : n ≤ length old) where
-  long-front : length front ≡ length (take n old) → length front ≡ n
-  long-front e = e ∙ length-take-le n old fits
+-- Rows whose first n entries are 0, or those of rows that are heights already, are heights to relax on from.
+pub heights-cleared : (from to gap flow : List ℕ) (n : ℕ) (old mid : List ℕ) → mid ≡ replicate n 0 ++ drop n old → Heights from to gap flow n mid
+heights-cleared from to gap flow n old mid e =
+    rw e (record { each = λ v h. subst (λ (k : ℕ). Height from to gap flow v k) (sym (zero-at v h)) ground })
+  where
+    zero-at : (v : ℕ) → v < n → at (replicate n 0 ++ drop n old) v ≡ 0
+    zero-at v h = get_or-append (replicate n 0) (drop n old) 0 v (omega (arith, length-replicate {A = ℕ} n 0)) ∙ get_or-replicate {A = ℕ} n v 0 0 h
 
-  pub relaxed-front : (y : List ℕ) → length front ≡ length (take n old) → Relaxed from to gap flow n (front ++ drop n old) y
+pub heights-copied : (from to gap flow : List ℕ) (n : ℕ) (lowest old mid : List ℕ) → n ≤ length lowest → mid ≡ take n lowest ++ drop n old
+    → Heights from to gap [] n lowest → Heights from to gap flow n mid
+heights-copied from to gap flow n lowest old mid k e hs =
+    rw e (record {
+      each = λ v h. subst (λ (x : ℕ). Height from to gap flow v x) (sym (same v h)) ((heights-any from to gap flow n lowest hs).each v h);
+    })
+  where
+    same : (v : ℕ) → v < n → at (take n lowest ++ drop n old) v ≡ at lowest v
+    same v h = get_or-append (take n lowest) (drop n old) 0 v (omega (arith, length-take-le n lowest k)) ∙ get_or-take n lowest v 0 h
+
+-- The first n entries written as a slice of their own.
+module _ (n : ℕ) (front old : List ℕ) (fits : n ≤ length old) where
+  pub front-cleared : front ≡ replicate (length (take n old)) 0 → front ++ drop n old ≡ replicate n 0 ++ drop n old
+  front-cleared e = ap (λ (l : List ℕ). l ++ drop n old) (e ∙ ap (λ (k : ℕ). replicate k 0) (length-take-le n old fits))
+
+  pub relaxed-front : (from to gap flow y : List ℕ) → length front ≡ length (take n old) → Relaxed from to gap flow n (front ++ drop n old) y
       → Relaxed from to gap flow n old y
-  relaxed-front y e r =
+  relaxed-front from to gap flow y e r =
       record {
-        long = r.long ∙ length-append front (drop n old) ∙ omega (arith, long-front e, length-drop n old);
+        long = r.long ∙ length-append front (drop n old) ∙ omega (arith, long, length-drop n old);
         held = r.held;
         heights = r.heights;
-        rest = r.rest ∙ drop_at front (drop n old) n (long-front e);
-      }
-
-  same-front : (v : ℕ) → v < n → length front ≡ length (take n old) → at (front ++ drop n old) v ≡ at front v
-  same-front v h e = get_or-append front (drop n old) 0 v (omega (arith, long-front e))
-
-  pub heights-cleared : front ≡ replicate (length (take n old)) 0 → Heights from to gap flow n (front ++ drop n old)
-  heights-cleared e =
-      record {
-        each = λ v h. subst (λ (k : ℕ). Height from to gap flow v k) (sym (zero-at v h)) ground;
+        rest = r.rest ∙ drop_at front (drop n old) n long;
       }
     where
-      long : length front ≡ length (take n old)
-      long = ap length e ∙ length-replicate {A = ℕ} (length (take n old)) 0
-
-      zero-at : (v : ℕ) → v < n → at (front ++ drop n old) v ≡ 0
-      zero-at v h =
-          same-front v h long ∙ ap (λ (l : List ℕ). at l v) e ∙ get_or-replicate {A = ℕ} (length (take n old)) v 0 0 (omega (arith, length-take-le n old fits))
-
-  pub heights-copied : (lowest : List ℕ) → n ≤ length lowest → front ≡ take n lowest → Heights from to gap [] n lowest
-      → Heights from to gap flow n (front ++ drop n old)
-  heights-copied lowest k e hs =
-      record {
-        each = λ v h. subst (λ (x : ℕ). Height from to gap flow v x) (sym (same v h)) ((heights-any from to gap flow n lowest hs).each v h);
-      }
-    where
-      long : length front ≡ length (take n old)
-      long = omega (arith, ap length e, length-take-le n lowest k, length-take-le n old fits)
-
-      same : (v : ℕ) → v < n → at (front ++ drop n old) v ≡ at lowest v
-      same v h = same-front v h long ∙ ap (λ (l : List ℕ). at l v) e ∙ get_or-take n lowest v 0 h
+      long : length front ≡ n
+      long = e ∙ length-take-le n old fits

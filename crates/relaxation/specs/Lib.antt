@@ -5,3 +5,4 @@ pub mod Certificate
 pub mod Relax
 pub mod Low
 pub mod Arcs
+pub mod Loans

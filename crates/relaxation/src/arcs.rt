@@ -5,6 +5,7 @@
 // and a look at every edge follows where none is found. So nothing is required of these buffers.
 ghost use Rattle.std.specs.Prelude.{◌≡◌, ◌≤◌, set};
 ghost use Rattle.relaxation.specs.Arcs.{lists_of, link_one, link_from, link_all, link_at};
+ghost use Rattle.relaxation.specs.Loans.{LinksKept};
 
 use crate::net::Links;
 
@@ -19,8 +20,9 @@ fn link_edge(head: &mut [usize], next: &mut [usize], v: usize, a: usize)
     }
 }
 
-// The edges put in the lists of their nodes at one end. The two slices come apart, so that none is read anew at each edge.
-fn link_ends(ends: &[usize], head: &mut [usize], next: &mut [usize])
+// The edges put in the lists of their nodes at one end, in front of those that are there. The two slices come apart, so that none is read
+// anew at each edge.
+pub fn link_edges(ends: &[usize], head: &mut [usize], next: &mut [usize])
     ensures { lists_of head.new next.new ≡ link_from 0 ends.now (lists_of head.old next.old) }
 {
     for (a, &v) in ends.iter().enumerate() {
@@ -31,10 +33,11 @@ fn link_ends(ends: &[usize], head: &mut [usize], next: &mut [usize])
 impl Links<'_> {
     // The lists of the edges by their nodes at one end.
     pub fn link_edges(&mut self, ends: &[usize])
-        ensures { lists_of self.new.head.now self.new.next.now ≡ link_all ends.now self.old.head.now self.old.next.now }
+        ensures linked { lists_of self.new.head.now self.new.next.now ≡ link_all ends.now self.old.head.now self.old.next.now }
+        ensures loans { LinksKept self.old self.new }
     {
         self.head.fill(0);
-        link_ends(ends, self.head, self.next);
+        link_edges(ends, self.head, self.next);
     }
 }
 

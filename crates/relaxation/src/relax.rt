@@ -66,7 +66,7 @@ fn sweep_edges(arcs: &Arcs<'_>, flow: &[usize], y: &mut [usize]) -> bool
 
 // The lowest rows that keep the edges and are tight where the flow is, in the first n entries of y, from heights on. Some such rows must
 // exist: they stand above all that this reaches, so it ends.
-fn lift_rows(arcs: &Arcs<'_>, flow: &[usize], y: &mut [usize])
+pub fn lift_rows(arcs: &Arcs<'_>, flow: &[usize], y: &mut [usize])
     requires flow_len { length flow.now ≡ length arcs.now.from.now }
     requires n_in_bounds { arcs.now.n ≤ length y.old }
     requires holder { Holder arcs.now.from.now arcs.now.to.now arcs.now.gap.now flow.now arcs.now.n row_limit }

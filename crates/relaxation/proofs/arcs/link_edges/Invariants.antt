@@ -1,7 +1,7 @@
 use mathlib.Core.Path.{◌≡◌}
 use lib.ListN.{drop}
 use Rattle.relaxation.specs.Arcs.{lists_of, link_from}
-use Rattle.relaxation.proofs.arcs.link_ends.Given as goal
+use Rattle.relaxation.proofs.arcs.link_edges.Given as goal
 
 abbrev pub invariant-loop-a : goal.invariant-loop-a
 invariant-loop-a l =

@@ -1,5 +1,5 @@
 use Rattle.relaxation.proofs.ArcLaws as laws
-use Rattle.relaxation.proofs.arcs.link_ends.Goals as goal
+use Rattle.relaxation.proofs.arcs.link_edges.Goals as goal
 
 pub loop-a-preserved : goal.loop-a-preserved
 loop-a-preserved c = laws.linking-more _ _ _ _ c.loop-a.invariant _ c.loop-a-test.true c.link_edge.ensures
