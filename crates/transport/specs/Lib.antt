@@ -2,3 +2,4 @@
 pub mod Flow
 pub mod Load
 pub mod Shift
+pub mod Stocks

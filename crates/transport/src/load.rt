@@ -4,6 +4,7 @@ ghost use Rattle.graph.specs.Rows.{at};
 ghost use Rattle.relaxation.specs.Certificate.{Held};
 ghost use Rattle.transport.specs.Flow.{Flows};
 ghost use Rattle.transport.specs.Load.{Loads};
+ghost use Rattle.transport.specs.Stocks.{StockKept};
 ghost use Rattle.buffers.specs.Written.{word_limit};
 ghost use Rattle.relaxation.specs.Limits.{weight_limit};
 ghost use Rattle.buffers.specs.Lists.{sum};
@@ -26,7 +27,8 @@ pub fn load_edge(
     requires demand_len { length stock.old.demand.now ≡ rows.now.arcs.n }
     requires e_bound { at stock.old.supply.now (at rows.now.arcs.from.now e) + at weight.now e < word_limit }
     requires e_bound_2 { at stock.old.demand.now (at rows.now.arcs.to.now e) + at weight.now e < word_limit }
-    ensures { Loads rows.now.arcs.from.now rows.now.arcs.to.now rows.now.arcs.gap.now weight.now rows.now.y.now flow.old stock.old.supply.now stock.old.demand.now e flow.new stock.new.supply.now stock.new.demand.now }
+    ensures loads { Loads rows.now.arcs.from.now rows.now.arcs.to.now rows.now.arcs.gap.now weight.now rows.now.y.now flow.old stock.old.supply.now stock.old.demand.now e flow.new stock.new.supply.now stock.new.demand.now }
+    ensures stock { StockKept stock.old stock.new }
 {
     let w = weight[e];
     if rows.is_tight(e) {
@@ -45,7 +47,8 @@ pub fn load_edges(rows: &Rows<'_>, weight: &[usize], flow: &mut [usize], stock: 
     requires flow_value { flow.old ≡ replicate (length rows.now.arcs.from.now) 0 }
     requires supply_value { stock.old.supply.now ≡ replicate rows.now.arcs.n 0 }
     requires demand_value { stock.old.demand.now ≡ replicate rows.now.arcs.n 0 }
-    ensures { Flows rows.now.arcs.from.now rows.now.arcs.to.now rows.now.arcs.gap.now weight.now rows.now.arcs.n rows.now.y.now flow.new stock.new.supply.now stock.new.demand.now }
+    ensures flows { Flows rows.now.arcs.from.now rows.now.arcs.to.now rows.now.arcs.gap.now weight.now rows.now.arcs.n rows.now.y.now flow.new stock.new.supply.now stock.new.demand.now }
+    ensures stock { StockKept stock.old stock.new }
 {
     for e in 0..rows.arcs.from.len() {
         load_edge(rows, weight, flow, stock, e);

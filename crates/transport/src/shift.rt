@@ -8,6 +8,7 @@ ghost use Rattle.buffers.specs.Written.{word_limit};
 ghost use Rattle.relaxation.specs.Limits.{weight_limit};
 ghost use Rattle.buffers.specs.Lists.{sum};
 ghost use Rattle.transport.specs.Shift.{shifted, Cancels, CarriesOn, CarriesBack};
+ghost use Rattle.transport.specs.Stocks.{StockKept};
 
 use crate::rows::Rows;
 use crate::stock::Stock;
@@ -62,7 +63,8 @@ fn carry_back(flow: &mut [usize], xs: &mut [usize], a: usize, u: usize, w: usize
 fn cancel_at(stock: &mut Stock<'_>, v: usize)
     requires v_in_bounds { v < length stock.old.supply.now }
     requires v_in_bounds_2 { v < length stock.old.demand.now }
-    ensures { Cancels stock.old.supply.now stock.old.demand.now v stock.new.supply.now stock.new.demand.now }
+    ensures cancels { Cancels stock.old.supply.now stock.old.demand.now v stock.new.supply.now stock.new.demand.now }
+    ensures stock { StockKept stock.old stock.new }
 {
     let d = stock.supply[v].min(stock.demand[v]);
     stock.supply[v] -= d;
@@ -81,7 +83,8 @@ fn hand_over(
     requires weight_bound { sum weight.now < weight_limit }
     requires flows { Flows rows.now.arcs.from.now rows.now.arcs.to.now rows.now.arcs.gap.now weight.now rows.now.arcs.n rows.now.y.now flow.old stock.old.supply.now stock.old.demand.now }
     requires a_in_bounds { a < length rows.now.arcs.from.now }
-    ensures { Flows rows.now.arcs.from.now rows.now.arcs.to.now rows.now.arcs.gap.now weight.now rows.now.arcs.n rows.now.y.now flow.new stock.new.supply.now stock.new.demand.now }
+    ensures flows { Flows rows.now.arcs.from.now rows.now.arcs.to.now rows.now.arcs.gap.now weight.now rows.now.arcs.n rows.now.y.now flow.new stock.new.supply.now stock.new.demand.now }
+    ensures stock { StockKept stock.old stock.new }
 {
     if !rows.is_tight(a) {
         return;
@@ -109,7 +112,8 @@ fn move_up(
     requires weight_bound { sum weight.now < weight_limit }
     requires flows { Flows rows.now.arcs.from.now rows.now.arcs.to.now rows.now.arcs.gap.now weight.now rows.now.arcs.n rows.now.y.now flow.old stock.old.supply.now stock.old.demand.now }
     requires parent_len { length parent.now ≡ rows.now.arcs.n }
-    ensures { Flows rows.now.arcs.from.now rows.now.arcs.to.now rows.now.arcs.gap.now weight.now rows.now.arcs.n rows.now.y.now flow.new stock.new.supply.now stock.new.demand.now }
+    ensures flows { Flows rows.now.arcs.from.now rows.now.arcs.to.now rows.now.arcs.gap.now weight.now rows.now.arcs.n rows.now.y.now flow.new stock.new.supply.now stock.new.demand.now }
+    ensures stock { StockKept stock.old stock.new }
 {
     if v >= rows.arcs.n {
         return;
@@ -134,7 +138,8 @@ pub fn sweep_forest(
     requires weight_bound { sum weight.now < weight_limit }
     requires flows { Flows rows.now.arcs.from.now rows.now.arcs.to.now rows.now.arcs.gap.now weight.now rows.now.arcs.n rows.now.y.now flow.old stock.old.supply.now stock.old.demand.now }
     requires parent_len { length parent.now ≡ rows.now.arcs.n }
-    ensures { Flows rows.now.arcs.from.now rows.now.arcs.to.now rows.now.arcs.gap.now weight.now rows.now.arcs.n rows.now.y.now flow.new stock.new.supply.now stock.new.demand.now }
+    ensures flows { Flows rows.now.arcs.from.now rows.now.arcs.to.now rows.now.arcs.gap.now weight.now rows.now.arcs.n rows.now.y.now flow.new stock.new.supply.now stock.new.demand.now }
+    ensures stock { StockKept stock.old stock.new }
 {
     for &v in queue.iter().rev() {
         move_up(rows, weight, flow, stock, parent, v);

@@ -2,16 +2,16 @@ use Rattle.std.proofs.Common.{rules}
 use Rattle.transport.proofs.ShiftLaws as laws
 use Rattle.transport.proofs.shift.hand_over.Goals as goal
 
-pub returns-then-f-v : goal.returns-then-f-v
-returns-then-f-v c =
+pub returns-then-f-v-clause-flows : goal.returns-then-f-v-clause-flows
+returns-then-f-v-clause-flows c =
     let h = c.requires.a_in_bounds in
     let w = c.requires.weight_bound in
     let k = c.args.rows.now.arcs.shaped in
     let r = laws.supply-on _ _ _ _ _ _ k w _ _ _ c.requires.flows _ h (search rules) _ _ c.carry_on.ensures in
     laws.demand-back _ _ _ _ _ _ k w _ _ _ r _ h _ _ c.carry_back.ensures
 
-pub returns : goal.returns
-returns c =
+pub returns-clause-flows : goal.returns-clause-flows
+returns-clause-flows c =
     let h = c.requires.a_in_bounds in
     let w = c.requires.weight_bound in
     let k = c.args.rows.now.arcs.shaped in
