@@ -1,5 +1,6 @@
 // A forest of tight edges, searched in breadth. It is a hint: whatever the entries are, an edge is looked at before anything is handed over it.
 ghost use Rattle.std.specs.Prelude.{◌≡◌, ◌≤◌, length};
+ghost use Rattle.relaxation.specs.Loans.{LoanKept, HintsKept};
 
 use relaxation::arcs::next_link;
 use relaxation::net::{Arcs, Links, Side};
@@ -27,7 +28,7 @@ fn row_beyond(row: usize, g: usize, side: Side) -> usize {
 impl Forest<'_> {
     // Node v, where it was not reached before, reached over edge a.
     fn reach_node(&mut self, v: usize, a: usize)
-        ensures { length self.new.queue.now ≡ length self.old.queue.now }
+        ensures { LoanKept self.old.queue self.new.queue }
     {
         if v >= self.rank.len() || v >= self.parent.len() || self.count >= self.queue.len() {
             return;
@@ -44,7 +45,7 @@ impl Forest<'_> {
     // The end of edge a, where it was not reached before and the edge, whose other end is in row `row`, is tight.
     // Its side says which row is tight.
     fn reach_edge(&mut self, arcs: &Arcs<'_>, y: &[usize], side: Side, a: usize, row: usize)
-        ensures { length self.new.queue.now ≡ length self.old.queue.now }
+        ensures { LoanKept self.old.queue self.new.queue }
     {
         if a >= arcs.from.len() {
             return;
@@ -65,7 +66,7 @@ impl Forest<'_> {
 
     // The ends of the edges in one list of node v. A list is walked by its links.
     fn reach_list(&mut self, arcs: &Arcs<'_>, y: &[usize], list: &Links<'_>, side: Side, v: usize)
-        ensures { length self.new.queue.now ≡ length self.old.queue.now }
+        ensures { LoanKept self.old.queue self.new.queue }
     {
         let row = y.get(v).copied().unwrap_or(0);
         let mut k = list.head.get(v).copied().unwrap_or(0);
@@ -85,7 +86,7 @@ impl Forest<'_> {
         ins: &Links<'_>,
         root: usize,
     )
-        ensures { length self.new.queue.now ≡ length self.old.queue.now }
+        ensures { LoanKept self.old.queue self.new.queue }
     {
         let mut i = self.count;
         self.reach_node(root, arcs.from.len());
@@ -94,6 +95,22 @@ impl Forest<'_> {
             self.reach_list(arcs, y, outs, Side::Heads, v);
             self.reach_list(arcs, y, ins, Side::Tails, v);
             i += 1;
+        }
+    }
+
+    // The same from a root in every node, in their order, that is not reached before.
+    fn grow_roots(
+        &mut self,
+        arcs: &Arcs<'_>,
+        y: &[usize],
+        outs: &Links<'_>,
+        ins: &Links<'_>,
+        order: &[usize],
+    )
+        ensures { LoanKept self.old.queue self.new.queue }
+    {
+        for &root in order {
+            self.grow_root(arcs, y, outs, ins, root);
         }
     }
 }
@@ -107,7 +124,8 @@ pub fn grow_forest(
     parent: &mut [usize],
     order: &[usize],
 ) -> usize
-    ensures { result ≤ length hints.new.queue.now }
+    ensures count { result ≤ length hints.new.queue.now }
+    ensures hints { HintsKept hints.old hints.new }
 {
     rank.fill(0);
     let mut forest = Forest {
@@ -116,10 +134,6 @@ pub fn grow_forest(
         queue: hints.queue,
         count: 0,
     };
-    for &root in order {
-        forest.grow_root(arcs, y, &hints.outs, &hints.ins, root);
-    }
-    let count = forest.count;
-    // The proof does not know that the queue, which the forest gives back here, is the one that it grew in.
-    count.min(hints.queue.len())
+    forest.grow_roots(arcs, y, &hints.outs, &hints.ins, order);
+    forest.count
 }
