@@ -5,6 +5,8 @@ ghost use Rattle.start.specs.Start.{Started};
 ghost use Rattle.relaxation.specs.Limits.{weight_limit, row_limit};
 ghost use Rattle.buffers.specs.Lists.{sum};
 ghost use Rattle.relaxation.specs.Network.{Bounded};
+ghost use Rattle.relaxation.specs.Loans.{TreeKept, HintsKept};
+ghost use Rattle.transport.specs.Stocks.{StockKept};
 
 use crate::rows::start_rows;
 use hints::forest::grow_forest;
@@ -35,9 +37,8 @@ pub fn start_flow(
     requires lowest_len { length lowest.old ≡ net.now.arcs.n }
     requires rank_len { length tree.old.rank.now ≡ net.now.arcs.n }
     ensures started { Started net.now.arcs.from.now net.now.arcs.to.now net.now.arcs.gap.now net.now.weight.now net.now.arcs.n y.old y.new flow.new stock.new.supply.now stock.new.demand.now lowest.new }
-    ensures rank_same { length tree.new.rank.now ≡ length tree.old.rank.now }
-    ensures parent_same { length tree.new.parent.now ≡ length tree.old.parent.now }
-    ensures capacity_same { length tree.new.capacity.now ≡ length tree.old.capacity.now }
+    ensures tree { TreeKept tree.old tree.new }
+    ensures stock { StockKept stock.old stock.new }
 {
     flow.fill(0);
     stock.supply.fill(0);
@@ -59,9 +60,10 @@ pub fn ease_flow(
     requires flows { Flows rows.now.arcs.from.now rows.now.arcs.to.now rows.now.arcs.gap.now weight.now rows.now.arcs.n rows.now.y.now flow.old stock.old.supply.now stock.old.demand.now }
     requires parent_len { length tree.old.parent.now ≡ rows.now.arcs.n }
     ensures flows { Flows rows.now.arcs.from.now rows.now.arcs.to.now rows.now.arcs.gap.now weight.now rows.now.arcs.n rows.now.y.now flow.new stock.new.supply.now stock.new.demand.now }
-    ensures rank_same { length tree.new.rank.now ≡ length tree.old.rank.now }
-    ensures parent_same { length tree.new.parent.now ≡ length tree.old.parent.now }
-    ensures capacity_same { length tree.new.capacity.now ≡ length tree.old.capacity.now }
+    ensures tree { TreeKept tree.old tree.new }
+    ensures order { tree.new.capacity.now ≡ tree.old.capacity.now }
+    ensures stock { StockKept stock.old stock.new }
+    ensures hints { HintsKept hints.old hints.new }
 {
     let rank = &mut *tree.rank;
     let parent = &mut *tree.parent;

@@ -4,6 +4,7 @@ ghost use Rattle.relaxation.specs.Low.{Lowered};
 ghost use Rattle.start.specs.Start.{RowsReady};
 ghost use Rattle.relaxation.specs.Limits.{row_limit};
 ghost use Rattle.relaxation.specs.Relax.{Holder};
+ghost use Rattle.relaxation.specs.Loans.{TreeKept};
 
 use hints::order::order_nodes;
 use hints::sink::sink_nodes;
@@ -40,9 +41,7 @@ pub fn start_rows(
     requires lowest_len { length lowest.old ≡ net.now.arcs.n }
     requires rank_len { length tree.old.rank.now ≡ net.now.arcs.n }
     ensures rows { RowsReady net.now.arcs.from.now net.now.arcs.to.now net.now.arcs.gap.now flow.now net.now.arcs.n y.old y.new lowest.new }
-    ensures rank_same { length tree.new.rank.now ≡ length tree.old.rank.now }
-    ensures parent_same { length tree.new.parent.now ≡ length tree.old.parent.now }
-    ensures capacity_same { length tree.new.capacity.now ≡ length tree.old.capacity.now }
+    ensures tree { TreeKept tree.old tree.new }
 {
     let order = &mut *tree.capacity;
     lowest_rows(&net.arcs, flow, y, tree.rank);
