@@ -6,6 +6,7 @@ ghost use Rattle.relaxation.specs.Low.{RowsLow};
 ghost use Rattle.buffers.specs.Written.{word_limit};
 ghost use Rattle.relaxation.specs.Limits.{calm_limit, peak_limit};
 ghost use Rattle.relaxation.specs.Network.{Narrow, Lengths};
+ghost use Rattle.relaxation.specs.Loans.{TreeKept, HintsKept};
 ghost use Rattle.augment.specs.Search.{Fits, Marks, Raised, Planted, Grown};
 
 use crate::exit::{Search, next_exit};
@@ -16,17 +17,19 @@ use transport::stock::Stock;
 
 // The far end of edge a marked.
 pub fn mark_end(
-    arcs: &Arcs<'_>,
+    from: &[usize],
+    to: &[usize],
     flow: &[usize],
     tree: &mut Tree<'_>,
     a: usize,
     count: usize,
 ) -> usize
-    requires { Fits arcs.now.from.now arcs.now.to.now flow.now tree.old.rank.now tree.old.parent.now tree.old.capacity.now a }
-    ensures { Marks arcs.now.from.now arcs.now.to.now flow.now tree.old.rank.now tree.old.parent.now tree.old.capacity.now a count tree.new.rank.now tree.new.parent.now tree.new.capacity.now result }
+    requires { Fits from.now to.now flow.now tree.old.rank.now tree.old.parent.now tree.old.capacity.now a }
+    ensures marks { Marks from.now to.now flow.now tree.old.rank.now tree.old.parent.now tree.old.capacity.now a count tree.new.rank.now tree.new.parent.now tree.new.capacity.now result }
+    ensures tree { TreeKept tree.old tree.new }
 {
-    let f = arcs.from[a];
-    let t = arcs.to[a];
+    let f = from[a];
+    let t = to[a];
     if tree.rank[t] == 0 {
         tree.rank[t] = count;
         tree.parent[t] = a;
@@ -41,17 +44,17 @@ pub fn mark_end(
 
 // The marked ones of the first n entries of y raised by d.
 // By index: of a loop over `iter_mut` beside another slice nothing is known of what it wrote; both slices go on behind the nodes.
-pub fn raise_marked(y: &mut [usize], tree: &Tree<'_>, n: usize, d: usize)
+pub fn raise_marked(y: &mut [usize], rank: &[usize], n: usize, d: usize)
     requires n_in_bounds { n ≤ length y.old }
-    requires n_in_bounds_2 { n ≤ length tree.now.rank.now }
+    requires n_in_bounds_2 { n ≤ length rank.now }
     requires by_index { (v : ℕ) → v < n → at y.old v + d < word_limit }
-    ensures { Raised n tree.now.rank.now d y.old y.new }
+    ensures { Raised n rank.now d y.old y.new }
 {
     if d == 0 {
         return;
     }
-    for (v, &rank) in tree.rank[..n].iter().enumerate() {
-        if rank > 0 {
+    for (v, &r) in rank[..n].iter().enumerate() {
+        if r > 0 {
             y[v] += d;
         }
     }
@@ -76,7 +79,9 @@ pub fn grow_tree(
     requires s_nonzero { 0 < at stock.now.supply.now s }
     requires amount_nonzero { 0 < at tree.old.capacity.now s }
     requires planted { Planted arcs.now.n s (at tree.old.capacity.now s) tree.old.rank.now tree.old.capacity.now }
-    ensures { Grown arcs.now.from.now arcs.now.to.now arcs.now.gap.now flow.now arcs.now.n s (at tree.old.capacity.now s) peak_limit stock.now.demand.now y.old y.new tree.new.rank.now tree.new.parent.now tree.new.capacity.now result }
+    ensures grown { Grown arcs.now.from.now arcs.now.to.now arcs.now.gap.now flow.now arcs.now.n s (at tree.old.capacity.now s) peak_limit stock.now.demand.now y.old y.new tree.new.rank.now tree.new.parent.now tree.new.capacity.now result }
+    ensures tree { TreeKept tree.old tree.new }
+    ensures hints { HintsKept hints.old hints.new }
 {
     let mut count = 2;
     let mut t = s;
@@ -85,8 +90,10 @@ pub fn grow_tree(
     while stock.demand[t] == 0 {
         let marked = count - 1;
         search = next_exit(arcs, flow, y, tree, hints, marked, search);
-        raise_marked(y, tree, arcs.n, search.exit.slack);
-        t = mark_end(arcs, flow, tree, search.exit.edge, count);
+        // Lent on as `&mut`: of a slice that a struct behind a `&mut` lends shared the proof no longer knows what it holds.
+        let rank = &mut *tree.rank;
+        raise_marked(y, rank, arcs.n, search.exit.slack);
+        t = mark_end(arcs.from, arcs.to, flow, tree, search.exit.edge, count);
         put_node(hints.queue, marked, t);
         count += 1;
     }
@@ -100,6 +107,7 @@ pub fn plant_root(tree: &mut Tree<'_>, n: usize, s: usize, amount: usize)
     requires s_lt_n { s < n }
     ensures planted { Planted n s amount tree.new.rank.now tree.new.capacity.now }
     ensures parent_same { tree.new.parent.now ≡ tree.old.parent.now }
+    ensures tree { TreeKept tree.old tree.new }
 {
     tree.rank.fill(0);
     tree.rank[s] = 1;

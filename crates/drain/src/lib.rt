@@ -7,6 +7,8 @@ ghost use Rattle.relaxation.specs.Low.{RowsLow};
 ghost use Rattle.drain.specs.Drain.{Sendable, Sent, Drained, Picks, NextSupply, DrainedAll};
 ghost use Rattle.relaxation.specs.Limits.{calm_limit};
 ghost use Rattle.relaxation.specs.Network.{Lengths};
+ghost use Rattle.relaxation.specs.Loans.{TreeKept, HintsKept};
+ghost use Rattle.transport.specs.Stocks.{StockKept};
 
 use augment::push::push_flow;
 use augment::tree::{grow_tree, plant_root};
@@ -28,10 +30,21 @@ fn send_flow(
 ) -> usize
     requires s_lt_n { s < net.now.arcs.n }
     requires sendable { Sendable net.now.arcs.from.now net.now.arcs.to.now net.now.arcs.gap.now net.now.weight.now net.now.arcs.n s t y.old flow.old tree.now.rank.now tree.now.parent.now tree.now.capacity.now stock.old.supply.now stock.old.demand.now }
-    ensures { Sent net.now.arcs.from.now net.now.arcs.to.now net.now.arcs.gap.now net.now.weight.now net.now.arcs.n s y.old stock.old.supply.now y.new flow.new stock.new.supply.now stock.new.demand.now result }
+    ensures sent { Sent net.now.arcs.from.now net.now.arcs.to.now net.now.arcs.gap.now net.now.weight.now net.now.arcs.n s y.old stock.old.supply.now y.new flow.new stock.new.supply.now stock.new.demand.now result }
+    ensures stock { StockKept stock.old stock.new }
 {
     let d = tree.capacity[t].min(stock.demand[t]);
-    push_flow(&net.arcs, y, flow, tree, s, t, d);
+    push_flow(
+        &net.arcs,
+        y,
+        flow,
+        tree.rank,
+        tree.parent,
+        tree.capacity,
+        s,
+        t,
+        d,
+    );
     let left = stock.supply[s] - d;
     stock.supply[s] = left;
     stock.demand[t] -= d;
@@ -54,7 +67,10 @@ pub fn drain_node(
     requires flows { Flows net.now.arcs.from.now net.now.arcs.to.now net.now.arcs.gap.now net.now.weight.now net.now.arcs.n y.old flow.old stock.old.supply.now stock.old.demand.now }
     requires rows_low { RowsLow net.now.arcs.n calm_limit y.old }
     requires s_lt_n { s < net.now.arcs.n }
-    ensures { Drained net.now.arcs.from.now net.now.arcs.to.now net.now.arcs.gap.now net.now.weight.now net.now.arcs.n s y.old stock.old.supply.now y.new flow.new stock.new.supply.now stock.new.demand.now tree.new.rank.now tree.new.parent.now tree.new.capacity.now }
+    ensures drained { Drained net.now.arcs.from.now net.now.arcs.to.now net.now.arcs.gap.now net.now.weight.now net.now.arcs.n s y.old stock.old.supply.now y.new flow.new stock.new.supply.now stock.new.demand.now tree.new.rank.now tree.new.parent.now tree.new.capacity.now }
+    ensures tree { TreeKept tree.old tree.new }
+    ensures stock { StockKept stock.old stock.new }
+    ensures hints { HintsKept hints.old hints.new }
 {
     let mut amount = stock.supply[s];
     while amount > 0 {
@@ -102,7 +118,10 @@ pub fn drain_nodes(
     requires lengths { Lengths net.now.arcs.n y.old tree.old.rank.now tree.old.parent.now tree.old.capacity.now }
     requires flows { Flows net.now.arcs.from.now net.now.arcs.to.now net.now.arcs.gap.now net.now.weight.now net.now.arcs.n y.old flow.old stock.old.supply.now stock.old.demand.now }
     requires rows_low { RowsLow net.now.arcs.n calm_limit y.old }
-    ensures { DrainedAll net.now.arcs.from.now net.now.arcs.to.now net.now.arcs.gap.now net.now.weight.now net.now.arcs.n y.old y.new flow.new stock.new.supply.now stock.new.demand.now }
+    ensures drained { DrainedAll net.now.arcs.from.now net.now.arcs.to.now net.now.arcs.gap.now net.now.weight.now net.now.arcs.n y.old y.new flow.new stock.new.supply.now stock.new.demand.now }
+    ensures tree { TreeKept tree.old tree.new }
+    ensures stock { StockKept stock.old stock.new }
+    ensures hints { HintsKept hints.old hints.new }
 {
     while let Some(s) = find_supply(y, stock) {
         drain_node(net, y, flow, tree, stock, hints, s);

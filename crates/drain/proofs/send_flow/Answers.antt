@@ -2,8 +2,8 @@ use mathlib.Core.Path.{refl}
 use Rattle.drain.proofs.DrainLaws as laws
 use Rattle.drain.proofs.send_flow.Goals as goal
 
-pub returns : goal.returns
-returns c =
+pub returns-clause-sent : goal.returns-clause-sent
+returns-clause-sent c =
     laws.sends _ _ _ _ _ _ _ _ _ _ _ _ _ _ c.args.net.now.network.weights c.requires.s_lt_n c.requires.sendable _ c.min-d.ensures
     _ _ _ _ _ c.push_flow.ensures c.lower_rows.ensures refl refl refl
 
