@@ -7,6 +7,7 @@ ghost use Rattle.std.specs.Prelude.{◌*◌, ◌≤◌, ◌<◌, List, ℕ, leng
 ghost use Rattle.relaxation.specs.Certificate.{Certified};
 ghost use Rattle.relaxation.specs.Limits.{row_limit};
 ghost use Rattle.relaxation.specs.Network.{Bounded, Buffers};
+ghost use Rattle.network.specs.Scratch.{WorkKept};
 
 use drain::drain_nodes;
 use relaxation::net::{Links, Net};
@@ -31,7 +32,8 @@ pub struct Work<'a> {
 pub fn solve(net: &Net<'_>, y: &mut [usize], flow: &mut [usize], work: &mut Work<'_>)
     requires bounded { Bounded net.now.arcs.from.now net.now.arcs.to.now net.now.arcs.gap.now net.now.arcs.n row_limit }
     requires buffers { Buffers (length net.now.arcs.from.now) net.now.arcs.n y.old flow.old work.old.tree.rank.now work.old.tree.parent.now work.old.tree.capacity.now work.old.stock.supply.now work.old.stock.demand.now work.old.lowest.now }
-    ensures { Certified net.now.arcs.from.now net.now.arcs.to.now net.now.arcs.gap.now net.now.weight.now net.now.arcs.n y.old y.new flow.new }
+    ensures certified { Certified net.now.arcs.from.now net.now.arcs.to.now net.now.arcs.gap.now net.now.weight.now net.now.arcs.n y.old y.new flow.new }
+    ensures work { WorkKept work.old work.new }
 {
     work.hints.outs.link_edges(net.arcs.from);
     work.hints.ins.link_edges(net.arcs.to);

@@ -1,0 +1,2 @@
+-- What the solver leaves of its scratch.
+pub mod Scratch
