@@ -86,7 +86,7 @@ impl Residual<'_, '_> {
 }
 
 // An edge that leaves the marked set with the least slack: one of a list, edges out of marked nodes first, or else what a look at all
-// edges gives. Rows and flow are parameters of their own, since of a slice in a struct the caller no longer knows what it holds.
+// edges gives. Rows and flow are parameters of their own, since of a slice in a struct the caller knows only what a clause says.
 pub fn next_exit<'s>(
     arcs: &Arcs<'_>,
     flow: &'s [usize],

@@ -61,7 +61,7 @@ pub fn raise_marked(y: &mut [usize], rank: &[usize], n: usize, d: usize)
 }
 
 // Marks and raises, from s alone on, until a marked node wants something: that node.
-// Rows and flow are parameters of their own, since of a slice in a struct the caller no longer knows what it holds.
+// Rows and flow are parameters of their own, since of a slice in a struct the caller knows only what a clause says.
 pub fn grow_tree(
     arcs: &Arcs<'_>,
     y: &mut [usize],

@@ -18,7 +18,7 @@ use relaxation::scratch::{Hints, Tree};
 use transport::stock::Stock;
 
 // As much as can come to node t and t wants, sent there from node s over the tree; what s has still to send.
-// Rows and flow are parameters of their own, since of a slice in a struct the caller no longer knows what it holds.
+// Rows and flow are parameters of their own, since of a slice in a struct the caller knows only what a clause says.
 fn send_flow(
     net: &Net<'_>,
     y: &mut [usize],

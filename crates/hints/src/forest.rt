@@ -98,7 +98,8 @@ impl Forest<'_> {
         }
     }
 
-    // The same from a root in every node, in their order, that is not reached before.
+    // The same from a root in every node, in their order, that is not reached before. It is a method, since of a forest that its maker changes
+    // in a loop the proof no longer knows which queue it has.
     fn grow_roots(
         &mut self,
         arcs: &Arcs<'_>,

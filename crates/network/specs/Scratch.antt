@@ -3,7 +3,7 @@ use Rattle.relaxation.specs.Loans.{LoanKept, LinksKept, TreeKept}
 use Rattle.transport.specs.Stocks.{StockKept}
 use Rattle.network.specs.declared.Work.{Work}
 
--- each slice is the same loan, as long as it was; what they hold is free
+-- each slice is the same loan, with the length that it had; what they hold is free
 pub record WorkKept (old new : Work) : Type 0 where
   pub tree : TreeKept old.tree new.tree
   pub stock : StockKept old.stock new.stock

@@ -5,12 +5,12 @@ use Rattle.relaxation.specs.declared.net.Links.{Links}
 use Rattle.relaxation.specs.declared.scratch.Tree.{Tree}
 use Rattle.relaxation.specs.declared.scratch.Hints.{Hints}
 
--- the same loan, as long as it was
+-- the same loan, with the length that it had
 pub record LoanKept (old new : MutBor (List ℕ)) : Type 0 where
   pub same : new.ghost_name ≡ old.ghost_name
   pub long : length new.now ≡ length old.now
 
--- the same loan, which holds what it held
+-- the same loan, and it holds what it held
 pub record LoanRead (old new : MutBor (List ℕ)) : Type 0 where
   pub same : new.ghost_name ≡ old.ghost_name
   pub held : new.now ≡ old.now

@@ -19,7 +19,7 @@ use transport::stock::Stock;
 
 // Rows to start with, and all edges taken in at them. Rows that are lent in y save the first relaxation where they are the lowest ones.
 // The nodes are left in `tree.capacity`, in their order.
-// Rows and flow are parameters of their own, since of a slice in a struct the caller no longer knows what it holds.
+// Rows and flow are parameters of their own, since of a slice in a struct the caller knows only what a clause says.
 pub fn start_flow(
     net: &Net<'_>,
     y: &mut [usize],
