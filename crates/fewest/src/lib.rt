@@ -5,8 +5,10 @@ mod lent;
 
 ghost use Rattle.std.specs.Prelude.{◌≡◌, length};
 ghost use Rattle.passes.specs.Order.{downward};
+ghost use Rattle.passes.specs.Kept.{WorkKept};
 ghost use Rattle.fewest.specs.Fewest.{pass_count};
 ghost use Rattle.fewest.specs.Drafts.{best_in, Scratch, Passable, Improving, Bettered, DrawingHeld};
+ghost use Rattle.fewest.specs.Kept.{DraftKept};
 
 pub use crate::lent::{Draft, Sides, Sketch};
 use crossings::Rows;
@@ -28,7 +30,10 @@ pub fn improve_drawing(
     requires improving { Improving sides.now.row.now sides.now.above.far.now sides.now.below.far.now draft.old.first.now pass_count downward draft.old.order.now draft.old.pos.now saved.old crossings }
     requires scratch { Scratch sides.now.row.now work.old.totals.now work.old.moved.now }
     requires before_len { length draft.old.before.now ≡ length draft.old.order.now }
-    ensures { DrawingHeld (best_in sides.now.row.now sides.now.above.far.now sides.now.below.far.now draft.old.first.now) saved.new result }
+    ensures held { DrawingHeld (best_in sides.now.row.now sides.now.above.far.now sides.now.below.far.now draft.old.first.now) saved.new result }
+    ensures first_stays { draft.new.first.now ≡ draft.old.first.now }
+    ensures draft_kept { DraftKept draft.old draft.new }
+    ensures work_kept { WorkKept work.old work.new }
 {
     let first = &mut *draft.first;
     let order = &mut *draft.order;
@@ -58,8 +63,7 @@ fn pass_both(
 ) -> usize
     requires { Passable sides.now.row.now first.now order.old pos.old work.old.totals.now work.old.moved.now saved.old }
     ensures bettered { Bettered sides.now.row.now sides.now.above.far.now sides.now.below.far.now first.now order.old pos.old saved.old fewest order.new pos.new saved.new result }
-    ensures totals_kept { length work.new.totals.now ≡ length work.old.totals.now }
-    ensures moved_kept { length work.new.moved.now ≡ length work.old.moved.now }
+    ensures work_kept { WorkKept work.old work.new }
 {
     pass_down(&sides.above, first, order, pos, work);
     let down = Rows { order, first, pos };
