@@ -11,6 +11,7 @@ ghost use Rattle.fewest.specs.Drafts.{best_in, Scratch, Passable, Improving, Bet
 ghost use Rattle.fewest.specs.Kept.{DraftKept};
 
 pub use crate::lent::{Draft, Sides, Sketch};
+use buffers::copy_all;
 use crossings::Rows;
 use judging::keep_better;
 use passes::{Work, pass_down, pass_up};
@@ -41,7 +42,7 @@ pub fn improve_drawing(
     let pos = &mut *draft.pos;
     let mut fewest = crossings;
     for _ in 0..PASS_PAIRS {
-        before.copy_from_slice(order);
+        copy_all(order, before);
         fewest = pass_both(sides, first, order, pos, work, saved, fewest);
         if *before == *order {
             return fewest;

@@ -14,6 +14,7 @@ ghost use Rattle.fewest.specs.Kept.{DraftKept};
 ghost use Rattle.sweep.specs.Kept.{RoomKept};
 
 use barycentre::count_ends;
+use buffers::copy_all;
 use crossings::{Rows, count_crossings};
 use fewest::{Draft, Sides, Sketch, improve_drawing};
 use passes::start::start_order;
@@ -122,7 +123,7 @@ fn start_drawing(
     let count = first.len() - 1;
     start_order(sketch.row, count, order, first, work.totals, work.moved);
     place_all(order, first, pos);
-    saved.copy_from_slice(order);
+    copy_all(order, saved);
     let rows = Rows { order, first, pos };
     count_crossings(&rows, side, work.moved, work.totals)
 }

@@ -9,7 +9,7 @@ use Rattle.fewest.proofs.improve_drawing.Goals as goal
 pub returns-then-eq-clause-held : goal.returns-then-eq-clause-held
 returns-then-eq-clause-held c =
     let e = (slice_eq-Decides Decides-eqb _ _ _ c.eq.ensures).0 c.if-eq.true in
-    laws.turning-still c.loop-test.true c.loop.invariant.0 c.pass_both-fewest.ensures.bettered (sym e ∙ c.copy_from_slice.ensures.after)
+    laws.turning-still c.loop-test.true c.loop.invariant.0 c.pass_both-fewest.ensures.bettered (sym e ∙ c.copy_all.ensures)
 
 pub loop-preserved : goal.loop-preserved
 loop-preserved c = (
