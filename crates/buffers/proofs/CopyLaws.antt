@@ -16,6 +16,13 @@ paste_more s d i h k =
     let seam = set_at (take i s) (get_or d i 0) (drop (suc i) d) (get_or s i 0) i (length-take-le i s (omega arith)) in
     rw (drop-cons d i 0 k, seam, add-one i, take-suc s i 0 h, append_snoc)
 
+-- the same of a list of anything, whose entry i is v
+pub paste_entry : {A : Type 0} (s d : List A) (i : ℕ) (v : A) → v ≡ get_or s i v → i < length s → i < length d
+    → set (take i s ++ drop i d) i v ≡ take (i + 1) s ++ drop (i + 1) d
+paste_entry s d i v e h k =
+    let seam = set_at (take i s) (get_or d i v) (drop (suc i) d) v i (length-take-le i s (omega arith)) in
+    rw (drop-cons d i v k, seam, add-one i, take-suc s i v h, append_snoc, sym e)
+
 -- the first i entries of an array of n are those of f
 pub record Copied (n : ℕ) (f : ℕ → ℕ) (i : ℕ) (xs : List ℕ) : Type 0 where
   pub long : length xs ≡ n

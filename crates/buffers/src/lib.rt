@@ -1,5 +1,5 @@
-// What is done to lent slices below all layers: entries copied to the front of another, numbers stored in a buffer of narrower ones, and of two
-// lists the better one kept.
+// What is done to lent slices below all layers: entries copied to another or to the front of one, numbers stored in a buffer of narrower ones,
+// and of two lists the better one kept.
 #![tactic(auto)]
 
 mod keeping;
@@ -9,6 +9,17 @@ ghost use Rattle.graph.specs.Rows.{at};
 ghost use Rattle.buffers.specs.Written.{Stored};
 
 pub use crate::keeping::keep_fewer;
+
+// Every entry copied to a slice as long. By a loop, which calls nothing: `copy_from_slice` between slices of which it isn't known that they
+// lie apart calls `memmove`, and a host without a C library has to bring it.
+pub fn copy_all<T: Copy>(values: &[T], out: &mut [T])
+    requires { length out.old ≡ length values.now }
+    ensures { out.new ≡ values.now }
+{
+    for (i, &value) in values.iter().enumerate() {
+        out[i] = value;
+    }
+}
 
 // Every entry copied to the front of a slice. Answers how many they are.
 // It is `copy_from_slice` with the number of entries, from which the layout of rows goes on.

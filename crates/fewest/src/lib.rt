@@ -5,10 +5,13 @@ mod lent;
 
 ghost use Rattle.std.specs.Prelude.{◌≡◌, length};
 ghost use Rattle.passes.specs.Order.{downward};
+ghost use Rattle.passes.specs.Kept.{WorkKept};
 ghost use Rattle.fewest.specs.Fewest.{pass_count};
 ghost use Rattle.fewest.specs.Drafts.{best_in, Scratch, Passable, Improving, Bettered, DrawingHeld};
+ghost use Rattle.fewest.specs.Kept.{DraftKept};
 
 pub use crate::lent::{Draft, Sides, Sketch};
+use buffers::copy_all;
 use crossings::Rows;
 use judging::keep_better;
 use passes::{Work, pass_down, pass_up};
@@ -28,7 +31,10 @@ pub fn improve_drawing(
     requires improving { Improving sides.now.row.now sides.now.above.far.now sides.now.below.far.now draft.old.first.now pass_count downward draft.old.order.now draft.old.pos.now saved.old crossings }
     requires scratch { Scratch sides.now.row.now work.old.totals.now work.old.moved.now }
     requires before_len { length draft.old.before.now ≡ length draft.old.order.now }
-    ensures { DrawingHeld (best_in sides.now.row.now sides.now.above.far.now sides.now.below.far.now draft.old.first.now) saved.new result }
+    ensures held { DrawingHeld (best_in sides.now.row.now sides.now.above.far.now sides.now.below.far.now draft.old.first.now) saved.new result }
+    ensures first_stays { draft.new.first.now ≡ draft.old.first.now }
+    ensures draft_kept { DraftKept draft.old draft.new }
+    ensures work_kept { WorkKept work.old work.new }
 {
     let first = &mut *draft.first;
     let order = &mut *draft.order;
@@ -36,7 +42,7 @@ pub fn improve_drawing(
     let pos = &mut *draft.pos;
     let mut fewest = crossings;
     for _ in 0..PASS_PAIRS {
-        before.copy_from_slice(order);
+        copy_all(order, before);
         fewest = pass_both(sides, first, order, pos, work, saved, fewest);
         if *before == *order {
             return fewest;
@@ -58,8 +64,7 @@ fn pass_both(
 ) -> usize
     requires { Passable sides.now.row.now first.now order.old pos.old work.old.totals.now work.old.moved.now saved.old }
     ensures bettered { Bettered sides.now.row.now sides.now.above.far.now sides.now.below.far.now first.now order.old pos.old saved.old fewest order.new pos.new saved.new result }
-    ensures totals_kept { length work.new.totals.now ≡ length work.old.totals.now }
-    ensures moved_kept { length work.new.moved.now ≡ length work.old.moved.now }
+    ensures work_kept { WorkKept work.old work.new }
 {
     pass_down(&sides.above, first, order, pos, work);
     let down = Rows { order, first, pos };

@@ -9,3 +9,4 @@ pub mod StartLaws
 pub mod OnceLaws
 pub mod BackLaws
 pub mod RowListLaws
+pub mod KeptLaws

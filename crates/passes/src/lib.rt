@@ -10,8 +10,9 @@ ghost use Rattle.passes.specs.Order.{settle_row, pass, downward, upward};
 ghost use Rattle.buffers.specs.Lists.{Below};
 ghost use Rattle.barycentre.specs.Flat.{ends_in};
 ghost use Rattle.passes.specs.Laid.{stored, segments_in, rows_held, Standing, ChangedBy, Placeable, Positioned};
+ghost use Rattle.passes.specs.Kept.{WorkKept};
 
-use barycentre::reorder_row;
+use barycentre::order_by_means;
 use points::lists::Side;
 
 // Room for the work of a pass: a sum by point, and a row.
@@ -53,13 +54,12 @@ fn settle_row(
     requires standing { Standing side.now.far.now side.now.head.now side.now.next.now side.now.counts.now (rows_held first.now) order.old first.now pos.old work.old.totals.now work.old.moved.now }
     requires r_bound { r < rows_held first.now }
     ensures changed { ChangedBy side.now.far.now side.now.head.now side.now.next.now side.now.counts.now (rows_held first.now) (λ near ys. settle_row (ends_in near side.now.far.now) ys r) first.now order.old pos.old order.new pos.new }
-    ensures totals_kept { length work.new.totals.now ≡ length work.old.totals.now }
-    ensures moved_kept { length work.new.moved.now ≡ length work.old.moved.now }
+    ensures work_kept { WorkKept work.old work.new }
 {
     let a = first[r];
     let b = first[r + 1];
     let row = &mut order[a..b];
-    reorder_row(row, side, pos, work.totals, work.moved);
+    order_by_means(row, side, pos, work.totals, work.moved);
     place_row(row, pos);
 }
 
@@ -74,8 +74,7 @@ pub fn pass_down(
 )
     requires { Standing side.now.far.now side.now.head.now side.now.next.now side.now.counts.now (rows_held first.now) order.old first.now pos.old work.old.totals.now work.old.moved.now }
     ensures changed { ChangedBy side.now.far.now side.now.head.now side.now.next.now side.now.counts.now (rows_held first.now) (λ lower ys. pass (segments_in side.now.far.now lower) ys downward) first.now order.old pos.old order.new pos.new }
-    ensures totals_kept { length work.new.totals.now ≡ length work.old.totals.now }
-    ensures moved_kept { length work.new.moved.now ≡ length work.old.moved.now }
+    ensures work_kept { WorkKept work.old work.new }
 {
     let count = first.len() - 1;
     for r in 1..count {
@@ -93,8 +92,7 @@ pub fn pass_up(
 )
     requires { Standing side.now.far.now side.now.head.now side.now.next.now side.now.counts.now (rows_held first.now) order.old first.now pos.old work.old.totals.now work.old.moved.now }
     ensures changed { ChangedBy side.now.far.now side.now.head.now side.now.next.now side.now.counts.now (rows_held first.now) (λ upper ys. pass (segments_in upper side.now.far.now) ys upward) first.now order.old pos.old order.new pos.new }
-    ensures totals_kept { length work.new.totals.now ≡ length work.old.totals.now }
-    ensures moved_kept { length work.new.moved.now ≡ length work.old.moved.now }
+    ensures work_kept { WorkKept work.old work.new }
 {
     let count = first.len() - 1;
     for r in (1..count).rev() {

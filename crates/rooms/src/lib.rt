@@ -3,15 +3,16 @@
 // An array has its size when the code is compiled, so that all that a chart may need would be cleared for every chart. There is room of two
 // sizes, and the order of a small chart is found in the smaller.
 //
-// `Scratch` and the length of the copy stay clauses: they are about lent scratch and the points, which come in two structs.
+// `Room` stays a clause: it is about lent scratch and the points, which come in two structs.
 #![tactic(auto)]
 
-ghost use Rattle.std.specs.Prelude.{◌≡◌, IsTrue, ◌+◌, ◌<◌, ◌≤◌, length};
+ghost use Rattle.std.specs.Prelude.{◌≡◌, IsTrue, ◌+◌, ◌<◌, ◌≤◌, length, replicate};
 ghost use Rattle.points.specs.Limits.{max_points};
-ghost use Rattle.passes.specs.Laid.{segments_in, rows_held};
+ghost use Rattle.buffers.specs.Lists.{Below};
+ghost use Rattle.passes.specs.Laid.{segments_in};
 ghost use Rattle.fewest.specs.Fewest.{best_order};
-ghost use Rattle.fewest.specs.Drafts.{best_in, Roomy, Scratch, DrawingHeld};
-ghost use Rattle.rooms.specs.Rooms.{small_points, segment_room, Sketched, DrawnIs};
+ghost use Rattle.fewest.specs.Drafts.{DrawingHeld};
+ghost use Rattle.rooms.specs.Rooms.{small_points, segment_room, Sketched, Room, DrawnIs};
 
 use buffers::store_u16;
 use fewest::{Draft, Sketch};
@@ -68,12 +69,6 @@ fn draw_in<const POINTS: usize, const STARTS: usize, const SEGMENTS: usize>(
     let mut order = [0usize; POINTS];
     let mut before = [0usize; POINTS];
     let mut pos = [0usize; POINTS];
-    let mut draft = Draft {
-        first: &mut first[..count + 1],
-        order: &mut order,
-        before: &mut before,
-        pos: &mut pos,
-    };
     let mut totals = [0usize; POINTS];
     let mut moved = [0usize; POINTS];
     let mut work = Work {
@@ -81,34 +76,49 @@ fn draw_in<const POINTS: usize, const STARTS: usize, const SEGMENTS: usize>(
         moved: &mut moved,
     };
     let mut saved = [0usize; POINTS];
-    let crossings = find_in::<POINTS, SEGMENTS>(sketch, &mut draft, &mut work, &mut saved);
+    let crossings = find_in::<POINTS, SEGMENTS>(
+        sketch,
+        count,
+        &mut first,
+        &mut order,
+        &mut before,
+        &mut pos,
+        &mut work,
+        &mut saved,
+    );
     store_u16(&saved, sketch.row.len(), out);
     crossings
 }
 
-// The same with room for the segments on both sides of so many points.
+// The order found in room that is lent for all but the segments on both sides of the points. What is lent comes as slices of its own, since
+// `first` is longer than there are rows.
 fn find_in<const POINTS: usize, const SEGMENTS: usize>(
     sketch: &Sketch<'_>,
-    draft: &mut Draft<'_>,
+    count: usize,
+    first: &mut [usize],
+    order: &mut [usize],
+    before: &mut [usize],
+    pos: &mut [usize],
     work: &mut Work<'_>,
     saved: &mut [usize],
 ) -> usize
     requires sizes { (POINTS ≤ max_points) × (SEGMENTS ≡ segment_room POINTS) }
-    requires points_fit { length sketch.now.row.now ≤ POINTS }
-    requires segments_fit { length sketch.now.upper.now ≤ SEGMENTS }
-    requires roomy { Roomy sketch.now.row.now draft.old.first.now draft.old.order.now draft.old.pos.now saved.old }
-    requires scratch { Scratch sketch.now.row.now work.old.totals.now work.old.moved.now }
-    requires first_in_bounds { rows_held draft.old.first.now ≤ length work.old.totals.now }
-    requires before_len { length draft.old.before.now ≡ length draft.old.order.now }
-    ensures { DrawingHeld (best_in sketch.now.row.now sketch.now.upper.now sketch.now.lower.now draft.old.first.now) saved.new result }
+    requires rows_in { Below count sketch.now.row.now }
+    requires room { Room (length sketch.now.row.now) (length sketch.now.upper.now) count first.old order.old before.old pos.old work.old.totals.now work.old.moved.now (replicate POINTS 0) (replicate SEGMENTS 0) (replicate POINTS 0) (replicate POINTS 0) (replicate SEGMENTS 0) (replicate POINTS 0) saved.old }
+    ensures { DrawingHeld (best_order count sketch.now.row.now (segments_in sketch.now.upper.now sketch.now.lower.now)) saved.new result }
 {
-    let segments = sketch.upper.len();
+    let mut draft = Draft {
+        first: &mut first[..count + 1],
+        order,
+        before,
+        pos,
+    };
     let mut above_head = [0usize; POINTS];
     let mut above_next = [0usize; SEGMENTS];
     let mut above_counts = [0usize; POINTS];
     let mut above = SideRoom {
         head: &mut above_head,
-        next: &mut above_next[..segments],
+        next: &mut above_next[..sketch.upper.len()],
         counts: &mut above_counts,
     };
     let mut below_head = [0usize; POINTS];
@@ -116,8 +126,8 @@ fn find_in<const POINTS: usize, const SEGMENTS: usize>(
     let mut below_counts = [0usize; POINTS];
     let mut below = SideRoom {
         head: &mut below_head,
-        next: &mut below_next[..segments],
+        next: &mut below_next[..sketch.upper.len()],
         counts: &mut below_counts,
     };
-    find_fewest(sketch, draft, &mut above, &mut below, work, saved)
+    find_fewest(sketch, &mut draft, &mut above, &mut below, work, saved)
 }

@@ -4,13 +4,17 @@
 ghost use Rattle.std.specs.Prelude.{◌≡◌, ◌≤◌, length};
 ghost use Rattle.passes.specs.Order.{downward};
 ghost use Rattle.passes.specs.Laid.{rows_held};
-ghost use Rattle.points.specs.Lists.{Linked};
+ghost use Rattle.passes.specs.Kept.{WorkKept};
+ghost use Rattle.points.specs.Lists.{Lists, Linked};
 ghost use Rattle.buffers.specs.Lists.{Below};
 ghost use Rattle.barycentre.specs.Steps.{Counted};
 ghost use Rattle.fewest.specs.Fewest.{pass_count};
 ghost use Rattle.fewest.specs.Drafts.{best_in, ListRoom, Prepared, Roomy, Scratch, Improving, DrawingHeld};
+ghost use Rattle.fewest.specs.Kept.{DraftKept};
+ghost use Rattle.sweep.specs.Kept.{RoomKept};
 
 use barycentre::count_ends;
+use buffers::copy_all;
 use crossings::{Rows, count_crossings};
 use fewest::{Draft, Sides, Sketch, improve_drawing};
 use passes::start::start_order;
@@ -41,28 +45,16 @@ pub fn find_fewest(
     requires scratch { Scratch sketch.now.row.now work.old.totals.now work.old.moved.now }
     requires first_in_bounds { rows_held draft.old.first.now ≤ length work.old.totals.now }
     requires before_len { length draft.old.before.now ≡ length draft.old.order.now }
-    ensures { DrawingHeld (best_in sketch.now.row.now sketch.now.upper.now sketch.now.lower.now draft.old.first.now) saved.new result }
+    ensures held { DrawingHeld (best_in sketch.now.row.now sketch.now.upper.now sketch.now.lower.now draft.old.first.now) saved.new result }
+    ensures draft_kept { DraftKept draft.old draft.new }
+    ensures above_kept { RoomKept above.old above.new }
+    ensures below_kept { RoomKept below.old below.new }
+    ensures work_kept { WorkKept work.old work.new }
 {
-    let head = &mut *above.head;
-    let next = &mut *above.next;
-    let counts = &mut *above.counts;
-    list_ends(sketch.lower, head, next, counts);
-    let upward = Side {
-        far: sketch.upper,
-        head,
-        next,
-        counts,
-    };
-    let head = &mut *below.head;
-    let next = &mut *below.next;
-    let counts = &mut *below.counts;
-    list_ends(sketch.upper, head, next, counts);
-    let downward = Side {
-        far: sketch.lower,
-        head,
-        next,
-        counts,
-    };
+    list_ends(sketch.lower, above.head, above.next, above.counts);
+    let upward = side_of(sketch.upper, above);
+    list_ends(sketch.upper, below.head, below.next, below.counts);
+    let downward = side_of(sketch.lower, below);
     let sides = Sides {
         row: sketch.row,
         above: upward,
@@ -78,6 +70,22 @@ pub fn find_fewest(
         saved,
     );
     improve_drawing(&sides, draft, work, saved, crossings)
+}
+
+// The segments that are listed in lent room, with the points at their far ends.
+fn side_of<'a>(far: &'a [usize], room: &'a SideRoom<'_>) -> Side<'a>
+    requires { Lists far.now room.now.head.now room.now.next.now }
+    ensures far_ends { result.far.now ≡ far.now }
+    ensures heads { result.head.now ≡ room.now.head.now }
+    ensures links { result.next.now ≡ room.now.next.now }
+    ensures counted { result.counts.now ≡ room.now.counts.now }
+{
+    Side {
+        far,
+        head: room.head,
+        next: room.next,
+        counts: room.counts,
+    }
 }
 
 // Segments listed and counted by the points at their near ends.
@@ -110,13 +118,12 @@ fn start_drawing(
     requires scratch { Scratch sketch.now.row.now work.old.totals.now work.old.moved.now }
     requires first_in_bounds { rows_held first.old ≤ length work.old.totals.now }
     ensures improving { Improving sketch.now.row.now sketch.now.upper.now sketch.now.lower.now first.new pass_count downward order.new pos.new saved.new result }
-    ensures totals_kept { length work.new.totals.now ≡ length work.old.totals.now }
-    ensures moved_kept { length work.new.moved.now ≡ length work.old.moved.now }
+    ensures work_kept { WorkKept work.old work.new }
 {
     let count = first.len() - 1;
     start_order(sketch.row, count, order, first, work.totals, work.moved);
     place_all(order, first, pos);
-    saved.copy_from_slice(order);
+    copy_all(order, saved);
     let rows = Rows { order, first, pos };
     count_crossings(&rows, side, work.moved, work.totals)
 }

@@ -1,16 +1,16 @@
-use mathlib.Core.Path.{refl}
 use native.Mathlib.Omega.{arith}
 use Rattle.passes.proofs.PassLaws as laws
+use Rattle.passes.proofs.KeptLaws.{work-same, work-again}
 use Rattle.passes.proofs.pass_up.Goals as goal
 
 pub loop-r-init : goal.loop-r-init
-loop-r-init c = (laws.up-starts, refl, refl, omega arith)
+loop-r-init c = (laws.up-starts, work-same, omega arith)
 
 pub settle_row-requires-clause-standing : goal.settle_row-requires-clause-standing
-settle_row-requires-clause-standing c = laws.going-stands c.requires (c.loop-r.invariant.0.going c.requires.near c.requires.ends) c.loop-r.invariant.1 c.loop-r.invariant.2
+settle_row-requires-clause-standing c = laws.going-stands c.requires (c.loop-r.invariant.0.going c.requires.near c.requires.ends) c.loop-r.invariant.1.totals_kept c.loop-r.invariant.1.moved_kept
 
 pub loop-r-preserved : goal.loop-r-preserved
-loop-r-preserved c = (laws.up-goes c.loop-r.invariant.0 c.loop-r-test.true c.settle_row.ensures.changed, omega (arith, c.settle_row.ensures.totals_kept, c.loop-r.invariant.1), omega (arith, c.settle_row.ensures.moved_kept, c.loop-r.invariant.2), omega (arith, c.loop-r.invariant.3))
+loop-r-preserved c = (laws.up-goes c.loop-r.invariant.0 c.loop-r-test.true c.settle_row.ensures.changed, work-again c.loop-r.invariant.1 c.settle_row.ensures.work_kept, omega (arith, c.loop-r.invariant.2))
 
 pub returns-clause-changed : goal.returns-clause-changed
 returns-clause-changed c = laws.up_ends c.loop-r.invariant.0 (omega (arith, c.loop-r-test.false))

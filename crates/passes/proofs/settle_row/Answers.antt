@@ -16,14 +16,14 @@ slice_bounds-row-start c = omega (arith, laws.starts-rise c.requires.standing c.
 pub slice_bounds-row-end : goal.slice_bounds-row-end
 slice_bounds-row-end c = omega (arith, laws.starts-rise c.requires.standing c.requires.r_bound, laws.ends-within c.requires.standing c.requires.r_bound)
 
-pub reorder_row-requires-clause-summable : goal.reorder_row-requires-clause-summable
-reorder_row-requires-clause-summable c = laws.row-summable c.requires.standing c.requires.r_bound
+pub order_by_means-requires-clause-summable : goal.order_by_means-requires-clause-summable
+order_by_means-requires-clause-summable c = laws.row-summable c.requires.standing c.requires.r_bound
 
-pub reorder_row-requires-clause-counted : goal.reorder_row-requires-clause-counted
-reorder_row-requires-clause-counted c = laws.row_counted c.requires.standing c.requires.r_bound
+pub order_by_means-requires-clause-counted : goal.order_by_means-requires-clause-counted
+order_by_means-requires-clause-counted c = laws.row_counted c.requires.standing c.requires.r_bound
 
 pub place_row-requires : goal.place_row-requires
-place_row-requires c = laws.now-points c.requires.standing c.requires.r_bound c.reorder_row.ensures.totalled c.reorder_row.ensures.arranged
+place_row-requires c = laws.now-points c.requires.standing c.requires.r_bound c.order_by_means.ensures.totalled c.order_by_means.ensures.arranged
 
 pub returns-clause-changed : goal.returns-clause-changed
-returns-clause-changed c = laws.settle-changes c.requires.r_bound c.reorder_row.ensures.totalled c.reorder_row.ensures.arranged refl c.place_row.ensures
+returns-clause-changed c = laws.settle-changes c.requires.r_bound c.order_by_means.ensures.totalled c.order_by_means.ensures.arranged refl c.place_row.ensures

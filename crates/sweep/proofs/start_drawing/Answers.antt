@@ -14,4 +14,4 @@ count_crossings-requires c =
 pub returns-clause-improving : goal.returns-clause-improving
 returns-clause-improving c =
     let q = rw c.requires.far at c.count_crossings.ensures in
-    laws.started-improving c.requires.roomy c.start_order.ensures.order_after c.start_order.ensures.first_after c.args.sketch.now.segmented c.requires.linked c.requires.row_in_bounds c.place_all.ensures c.copy_from_slice.ensures.after q
+    laws.started-improving c.requires.roomy c.start_order.ensures.order_after c.start_order.ensures.first_after c.args.sketch.now.segmented c.requires.linked c.requires.row_in_bounds c.place_all.ensures c.copy_all.ensures q

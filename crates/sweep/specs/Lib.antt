@@ -1,0 +1,2 @@
+-- What a search leaves of the room that it is lent.
+pub mod Kept
