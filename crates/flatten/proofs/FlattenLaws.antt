@@ -1,10 +1,12 @@
 -- Flat lists of one length, one edge more at their end, and loops that copy edges to them.
 use mathlib.Core.Path.{◌≡◌, refl, sym, ap, ◌∙◌}
+use mathlib.Core.Bool.{Bool, true, false}
 use mathlib.Core.List.{List, [], ◌∷◌, ◌++◌}
 use Prim.Native.Nat.{ℕ, ◌+◌, ◌≤◌, ◌<◌}
 use native.Mathlib.Numerals.{add-one}
 use native.Mathlib.Omega.{arith}
-use borrow.Author.Tests.{le-leb, lt-leb}
+use borrow.Author.Tests.{le-leb, lt-leb, leb-true}
+use lib.Dec.{leb}
 use lib.ListN.{length, get_or, take}
 use lib.Seq.{take-suc, length-take-le}
 use Rattle.std.proofs.Common.{take_all}
@@ -72,3 +74,12 @@ copied-few edges h = simp (le-leb (length edges) max_edges h)
 pub copied-none : (edges : List Edge) → max_edges < length edges → copied edges ≡ []
 unfolding copied
 copied-none edges h = simp (lt-leb (length edges) max_edges h)
+
+-- no more than there are, nor than a table can have
+pub copied-room : (edges : List Edge) → (length (copied edges) ≤ length edges) × (length (copied edges) ≤ max_edges)
+unfolding copied
+copied-room edges = go (leb (length edges) max_edges) refl
+  where
+    go : (b : Bool) → leb (length edges) max_edges ≡ b → (length (copied edges) ≤ length edges) × (length (copied edges) ≤ max_edges)
+    go true e = let h = leb-true (length edges) max_edges e in rw e (omega arith, h)
+    go false e = rw e (omega arith, omega arith)

@@ -69,10 +69,10 @@ pub record Downward (ys : List ℕ) (e : Edge) : Type 0 where
   pub to_in : e.to < length ys
   pub down : at ys e.from < at ys e.to
 
--- merged edge i, directed by its own flag, is edge i of those that are drawn, and leads down
-module _ {list : List MergedEdge} {turned : List Bool} {ys : List ℕ} (g : Layable list turned ys) (i : ℕ) (h : i < length list) {d : Edge} (e : d ≡ drawn_edge turned (get_or list i no_merged_edge)) where
+-- merged edge i, directed by its own flag, is edge i of those that are drawn, and leads down where they can be laid
+module _ (list : List MergedEdge) (turned : List Bool) (i : ℕ) (h : i < length list) {d : Edge} (e : d ≡ drawn_edge turned (get_or list i no_merged_edge)) where
   pub laid-edge : get_or (drawn_edges turned list) i no_edge ≡ d
   laid-edge = drawn-get turned list i h ∙ sym e
 
-  pub laid-down : Downward ys d
-  laid-down = subst (Downward ys) laid-edge (record { from_in = g.from_in i h; to_in = g.to_in i h; down = g.down i h })
+  pub laid-down : {ys : List ℕ} {cap : ℕ} → Layable list turned ys cap → Downward ys d
+  laid-down {ys} g = subst (Downward ys) laid-edge (record { from_in = g.from_in i h; to_in = g.to_in i h; down = g.down i h })

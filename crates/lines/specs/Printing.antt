@@ -4,7 +4,6 @@ use Rattle.graph.specs.Rows.{at, no_edge}
 use Rattle.merging.specs.declared.MergedEdge.{MergedEdge}
 use Rattle.merging.specs.Merged.{no_merged_edge, drawn_edges}
 use Rattle.points.specs.declared.dummy.Dummy.{Dummy}
-use Rattle.points.specs.Limits.{max_points}
 use Rattle.points.specs.Points.{dummies}
 use Rattle.buffers.specs.Lists.{Below}
 use Rattle.labels.specs.Text.{decimal}
@@ -40,15 +39,15 @@ dummies_on edge rows = map (λ r. record { edge = edge; row = r }) rows
 abbrev pub dummy_rows : List Dummy → List ℕ
 dummy_rows ds = map (λ (d : Dummy). d.row) ds
 
--- What laying the dummies asks for: merged edges, each kept or turned as its first edge is, lead down from row to row, and there are no more
--- dummies than a chart can have points.
-pub record Layable (list : List MergedEdge) (turned : List Bool) (ys : List ℕ) : Type 0 where
+-- What laying the dummies asks for: merged edges, each kept or turned as its first edge is, lead down from row to row, and there is room for
+-- their dummies.
+pub record Layable (list : List MergedEdge) (turned : List Bool) (ys : List ℕ) (cap : ℕ) : Type 0 where
   pub firsts : (i : ℕ) → i < length list → (get_or list i no_merged_edge).first < length turned
   pub from_in : (i : ℕ) → i < length list → (get_or (drawn_edges turned list) i no_edge).from < length ys
   pub to_in : (i : ℕ) → i < length list → (get_or (drawn_edges turned list) i no_edge).to < length ys
   pub down : (i : ℕ) → i < length list
       → at ys (get_or (drawn_edges turned list) i no_edge).from < at ys (get_or (drawn_edges turned list) i no_edge).to
-  pub room : length (dummies ys 0 (drawn_edges turned list)) ≤ max_points
+  pub room : length (dummies ys 0 (drawn_edges turned list)) ≤ cap
 
 -- What printing rows asks for: a row for each step, and an order of points.
 pub record Printable (steps dummies : ℕ) (ys order : List ℕ) : Type 0 where

@@ -9,16 +9,15 @@ ghost use Rattle.lines.specs.Printing.{numbered, dummies_on, Layable};
 use arrayvec::ArrayVec;
 use merging::MergedEdge;
 use points::dummy::Dummy;
-use points::limits::MAX_POINTS;
 
 // The dummies of merged edges, each kept or turned as its first edge is, between steps in their rows. Each dummy bears the number of that
 // edge.
-pub fn lay_dummies(
+pub fn lay_dummies<const CAP: usize>(
     list: &[MergedEdge],
     turned: &[bool],
     ys: &[usize],
-) -> ArrayVec<Dummy, MAX_POINTS>
-    requires { Layable list.now turned.now ys.now }
+) -> ArrayVec<Dummy, CAP>
+    requires { Layable list.now turned.now ys.now CAP }
     ensures { result.items ≡ numbered list.now (dummies ys.now 0 (drawn_edges turned.now list.now)) }
 {
     let mut all = ArrayVec::new();

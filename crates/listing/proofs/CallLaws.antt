@@ -17,6 +17,7 @@ use Rattle.table.specs.declared.types.Step.{Step}
 use Rattle.merging.specs.declared.MergedEdge.{MergedEdge}
 use Rattle.merging.specs.Merged.{merged, drawn_edges}
 use Rattle.points.specs.declared.dummy.Dummy.{Dummy}
+use Rattle.points.specs.Limits.{max_points}
 use Rattle.points.specs.Points.{dummies}
 use Rattle.labels.specs.Labels.{Labelled, label_text}
 use Rattle.labels.proofs.PageLaws.{Parts}
@@ -47,7 +48,7 @@ module _ {bytes : List ℕ} {r : TableChart} (o : Opened bytes r) where
 
   -- laying the dummies of its edges as they are drawn
   module _ {list : List MergedEdge} {flags : List Bool} {ys : List ℕ} (a : list ≡ merged r.table.edges.items) (b : flags ≡ r.turned.items) (c : ys ≡ r.chart.rows.items) where
-    pub given-layable : Layable list flags ys
+    pub given-layable : Layable list flags ys max_points
     given-layable = rw (a, b, c, o.flags_are) (page-layable chart-printed)
 
     pub given-dummies : {ds : List Dummy} → ds ≡ numbered list (dummies ys 0 (drawn_edges flags list)) → ds ≡ dummies_in (placed r)

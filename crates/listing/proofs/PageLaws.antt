@@ -77,7 +77,7 @@ module _ {bytes : List ℕ} {p : Placing} (h : Printed bytes p) where
   point-total : point_count p.rows edges ≡ length p.rows + length ds
   point-total = ap length points-are ∙ length-append p.rows (dummy_rows ds) ∙ ap (λ k. length p.rows + k) (length-map ds (λ (d : Dummy). d.row))
 
-  pub page-layable : Layable (merged contents.edges) (turned_in contents) p.rows
+  pub page-layable : Layable (merged contents.edges) (turned_in contents) p.rows max_points
   page-layable =
       record {
         firsts = first-in;

@@ -14,6 +14,7 @@ use lines::{put_line, put_refusal};
 use merging::merge_edges;
 use ordering::chart_table;
 use ordering::types::TableChart;
+use points::limits::MAX_POINTS;
 
 // The lines that the bytes are to print.
 // They are put together from a table, its chart and its bytes, none of which has a form to print of its own.
@@ -36,7 +37,11 @@ fn print_chart<const CAP: usize>(bytes: &[u8], charted: &TableChart, page: &mut 
 {
     let table = &charted.table;
     let chart = &charted.chart;
-    let dummies = lay_dummies(&merge_edges(&table.edges), &charted.turned, &chart.rows);
+    let dummies = lay_dummies::<MAX_POINTS>(
+        &merge_edges(&table.edges),
+        &charted.turned,
+        &chart.rows,
+    );
     let (n, m) = (table.steps.len(), table.edges.len());
     let figures = [n, m, chart.height, chart.total, chart.crossings];
     put_line(b"chart", &figures, page);

@@ -49,7 +49,7 @@ fn arrange_laid(
     requires { Stack chart.now.row.now chart.now.upper.now chart.now.lower.now chart.now.order.now r }
     ensures { LaidEnded chart.now.row.now chart.now.upper.now chart.now.lower.now chart.now.order.now r tries out.old out.new result }
 {
-    let gathered = gather_row(chart.order, chart.row, r);
+    let gathered = gather_row::<MAX_POINTS>(chart.order, chart.row, r);
     let points = gathered.as_slice();
     if MAX_ROW_POINTS < points.len() {
         return Err(Refusal::BadRow);

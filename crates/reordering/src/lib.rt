@@ -6,7 +6,6 @@ mod pick;
 
 ghost use Rattle.std.specs.Prelude.{◌≡◌, ◌≤◌, length};
 ghost use Rattle.buffers.specs.Lists.{Below};
-ghost use Rattle.points.specs.Limits.{max_points};
 ghost use Rattle.exchange.specs.Limits.{max_row_points};
 ghost use Rattle.reordering.specs.Stacked.{points_of, Stack, RowFoundIs};
 
@@ -26,10 +25,10 @@ pub struct FlatChart<'a> {
     pub order: &'a [u16],
 }
 
-// The points of row r as they stand in the order.
-pub fn gather_row(order: &[u16], row: &[usize], r: usize) -> ArrayVec<usize, MAX_POINTS>
+// The points of row r as they stand in the order, in a list that has room for all of the order.
+pub fn gather_row<const CAP: usize>(order: &[u16], row: &[usize], r: usize) -> ArrayVec<usize, CAP>
     requires below { Below (length row.now) order.now }
-    requires few { length order.now ≤ max_points }
+    requires few { length order.now ≤ CAP }
     ensures { result.items ≡ points_of row.now r order.now }
 {
     let mut points = ArrayVec::new();
@@ -50,7 +49,7 @@ pub fn order_points(chart: &FlatChart<'_>, points: &[usize], r: usize, tries: us
     requires points_len_bound { length points.now ≤ max_row_points }
     ensures { RowFoundIs chart.now.row.now chart.now.upper.now chart.now.lower.now chart.now.order.now points.now r tries result.order.items result.crossings result.floor }
 {
-    let above = gather_row(chart.order, chart.row, r - 1);
+    let above = gather_row::<MAX_POINTS>(chart.order, chart.row, r - 1);
     let mut pos = [0usize; MAX_POINTS];
     place_row(above.as_slice(), &mut pos);
     place_row(points, &mut pos);

@@ -8,5 +8,5 @@ use Rattle.lines.proofs.LayLaws.{still}
 use Rattle.lines.proofs.dummies.lay_dummies.Given as goal
 
 abbrev pub invariant-loop-merged : goal.invariant-loop-merged
-invariant-loop-merged l =
+invariant-loop-merged g l =
     Putting [] (numbered l.list (dummies l.ys 0 (drawn_edges l.turned l.list))) l.all.items (still l.list l.ys (drawn_edges l.turned l.list) l.merged-index)

@@ -17,7 +17,7 @@ pub lay_dummies-dummies-requires : goal.lay_dummies-dummies-requires
 lay_dummies-dummies-requires g c =
     let o = opened c.args.bytes.now c.requires.drawn c.requires.found in
     let drawn = c.deref-2.ensures.0 ∙ c.merge_edges.ensures ∙ ap merged c.deref.ensures.0 in
-    given-layable o drawn c.deref-3.ensures.0 c.deref-4.ensures.0
+    (search rules, given-layable o drawn c.deref-3.ensures.0 c.deref-4.ensures.0)
 
 pub put_line-requires : goal.put_line-requires
 put_line-requires g c =

@@ -5,8 +5,8 @@ use Rattle.reordering.proofs.StackLaws.{order-low}
 use Rattle.rearranging.proofs.LaidLaws.{points_low, found_fits}
 use Rattle.rearranging.proofs.arrange.arrange_laid.Goals as goal
 
-pub gather_row-gathered-requires-clause-below : goal.gather_row-gathered-requires-clause-below
-gather_row-gathered-requires-clause-below c = order-low c.requires.stacked
+pub gather_row-gathered-requires : goal.gather_row-gathered-requires
+gather_row-gathered-requires c = let s = c.requires.stacked in (omega arith, (order-low s, omega (arith, s.long, s.few_points)))
 
 pub name_points-requires-clause-fits : goal.name_points-requires-clause-fits
 name_points-requires-clause-fits c =
