@@ -15,7 +15,8 @@ ghost use Rattle.ordering.specs.Charting.{TableFound, chart_in};
 
 use crate::chart::draw_edges;
 use crate::store::hand_out_chart;
-use crate::types::{Figures, TableChart, Uncharted};
+pub use crate::types::Figures;
+use crate::types::{TableChart, Uncharted};
 use layering::place_table;
 use layering::types::TableRows;
 use outcome::Refusal;
