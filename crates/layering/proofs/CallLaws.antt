@@ -1,15 +1,11 @@
 -- The outcome of each call, by cases: what its parts found is what its definition says.
 use mathlib.Core.Path.{◌≡◌, refl, sym, ap, subst, ◌∙◌}
-use mathlib.Core.Bool.{Bool}
 use mathlib.Core.List.{List}
 use Prim.Native.Nat.{ℕ}
 use native.Mathlib.Omega.{arith}
 use lib.ListN.{length, take}
 use lib.Seq.{take_all}
-use Rattle.std.specs.Prelude.{Ok, Err, Result}
-use Rattle.arrayvec.specs.ArrayVec.{ArrayVec}
-use Rattle.graph.specs.declared.Edge.{Edge}
-use Rattle.graph.specs.Directed.{directed_by}
+use Rattle.std.specs.Prelude.{Some, Ok, Err, Result}
 use Rattle.graph.specs.Rows.{at, total, Best}
 use Rattle.graph.specs.Search.{rows_of}
 use Rattle.graph.proofs.BoundLaws.{best-is-rows_of}
@@ -21,14 +17,14 @@ use Rattle.table.specs.Table.{Contents, contents_of, read}
 use Rattle.table.specs.Calls.{contents_in}
 use Rattle.table.proofs.FairLaws.{read-fair}
 use Rattle.orientation.specs.Orientable.{Orientable}
-use Rattle.acyclic.specs.Oriented.{oriented_edges}
-use Rattle.acyclic.proofs.OrientedLaws.{turned-length, directed-oriented}
 use Rattle.rows.specs.declared.types.RowsFound.{RowsFound}
-use Rattle.rows.specs.Answers.{rows_found, rows_numbers}
-use Rattle.rows.specs.Placed.{held_rows, FairEdges, RowsPlaced, Placed, EdgesPlaced, RowsHandedOut}
+use Rattle.rows.specs.Answers.{rows_numbers}
+use Rattle.rows.specs.Placed.{held_rows, FairEdges, RowsPlaced, Placed, RowsHandedOut}
 use Rattle.rows.proofs.StoreLaws.{handed-best}
+use Rattle.layering.specs.declared.place.RankedEdges.{RankedEdges}
 use Rattle.layering.specs.declared.types.TableRows.{TableRows}
-use Rattle.layering.specs.Calls.{table_rows_found, rows_of_table, oriented_in, turned_in, steps_in, edges_in, rows_call, TableBest, PlaceEnd, place_by, place_call, place_end, EdgesTurned}
+use Rattle.layering.specs.declared.types.Unplaced.{Unplaced}
+use Rattle.layering.specs.Calls.{table_rows_found, rows_of_table, oriented_in, turned_in, steps_in, edges_in, rows_call, TableBest, EdgesRanked, PlaceEnd, flags_by, place_by, place_call, contents_beside, unread, place_end}
 use Rattle.layering.proofs.RankLaws.{oriented_fair, ranked-rows}
 
 -- ---- tables that are read
@@ -69,6 +65,15 @@ pub record TableFound (s : List ℕ) (r : TableRows) : Type 0 where
   pub placed : RowsPlaced (oriented_in (contents_in r.table)) (length r.table.steps.items) r.found
 
 module _ (s : List ℕ) where
+  -- the table and its flags, as the call hands them on
+  pub place-contents : (place_call s).contents ≡ contents_of (read s)
+  unfolding place_call
+  place-contents = refl
+
+  pub place-flags : (place_call s).turned ≡ flags_by (rows_of_table s) (turned_in (contents_of (read s)))
+  unfolding place_call
+  place-flags = refl
+
   -- a table with rows was read
   read-done : {rows : List ℕ} → rows_of_table s ≡ done rows → read s ≡ done (contents_of (read s))
   unfolding rows_of_table
@@ -107,13 +112,13 @@ module _ (s : List ℕ) where
                 };
           }
 
-  pub place-refused : {f : Refusal} → place_end (Err f) ≡ place_call s → rows_of_table s ≡ refused f
+  pub place-refused : (u : Unplaced) → place_end (Err u) ≡ place_call s → rows_of_table s ≡ refused u.refusal
   unfolding place_call
-  place-refused {f} e = go (rows_of_table s) e
+  place-refused u e = go (rows_of_table s) e
     where
-      go : (o : Outcome (List ℕ)) → place_end (Err f) ≡ place_by (contents_of (read s)) o → o ≡ refused f
-      go (refused k) e = ap refused (numbers-same k f (sym (ap (λ (x : PlaceEnd). x.numbers) e)))
-      go (done rows) e = absurd (omega (arith, number-some f, ap (λ (x : PlaceEnd). refusal_in x.numbers) e))
+      go : (o : Outcome (List ℕ)) → place_end (Err u) ≡ place_by (contents_of (read s)) o → o ≡ refused u.refusal
+      go (refused k) e = ap refused (numbers-same k u.refusal (sym (ap (λ (x : PlaceEnd). x.numbers) e)))
+      go (done rows) e = absurd (omega (arith, number-some u.refusal, ap (λ (x : PlaceEnd). refusal_in x.numbers) e))
 
   -- what the functions behind the call found is what it promises
   pub found-end : {r : TableRows} → TableFound s r → (place_end (Ok r) ≡ place_call s) × TableBest s (place_end (Ok r)).numbers (place_end (Ok r)).rows
@@ -124,9 +129,14 @@ module _ (s : List ℕ) where
         (sym (take_all (length r.table.steps.items) r.found.rows.items (omega (arith, p.placed.best.one_a_node)))) p.placed.best),
   )
 
-  pub refused-end : {f : Refusal} → rows_of_table s ≡ refused f → (place_end (Err f) ≡ place_call s) × TableBest s (place_end (Err f)).numbers (place_end (Err f)).rows
+  refused-end : (u : Unplaced) → contents_of (read s) ≡ contents_beside u.table → rows_of_table s ≡ refused u.refusal
+      → (place_end (Err u) ≡ place_call s) × TableBest s (place_end (Err u)).numbers (place_end (Err u)).rows
   unfolding place_call
-  refused-end {f} e = (rw e refl, λ zero. absurd (omega (arith, number-some f)))
+  refused-end u t e = (rw (e, t) refl, λ zero. absurd (omega (arith, number-some u.refusal)))
+
+  -- where the reader refuses
+  pub unread-end : {f : Refusal} → read s ≡ refused f → (place_end (Err (unread f)) ≡ place_call s) × TableBest s (place_end (Err (unread f))).numbers (place_end (Err (unread f))).rows
+  unread-end {f} e = refused-end (unread f) (ap contents_of e) (table-refused s e)
 
   -- ---- how a table's rows are found
 
@@ -134,28 +144,17 @@ module _ (s : List ℕ) where
     abbrev n : ℕ
     n = length t.steps.items
 
-    pub turned-refused : {f : Refusal} → table_rows_found n t.edges.items ≡ refused f → rows_of_table s ≡ refused f
-    turned-refused e = read-ranked s r ∙ e
+    pub ranked-refused : {f : Refusal} → EdgesRanked n t.edges.items (Err f) → rows_of_table s ≡ refused f
+    ranked-refused k = read-ranked s r ∙ sym k.says
 
-    module _ {turned : ArrayVec Bool} (p : EdgesTurned n t.edges.items (Ok turned)) where
-      pub turned-long : length turned.items ≡ length t.edges.items
-      turned-long = ap length p.0 ∙ turned-length n t.edges.items
+    pub ranked-found : {x : RankedEdges} → EdgesRanked n t.edges.items (Ok x) → TableFound s (record { table = t; turned = x.turned; found = x.found })
+    ranked-found {x} k = record { told = r; flags = k.0; says = read-ranked s r ∙ sym k.1.says; placed = k.1.placed }
 
-      module _ {flat : List Edge} (e : flat ≡ directed_by turned.items t.edges.items) where
-        turned-flat : flat ≡ oriented_edges n t.edges.items
-        turned-flat = e ∙ ap (λ b. directed_by b t.edges.items) p.0 ∙ directed-oriented n t.edges.items
-
-        pub turned-fair : FairEdges n flat
-        turned-fair = rw turned-flat (read-oriented s r)
-
-        ranked : {f : Result RowsFound Refusal} → EdgesPlaced n flat f → held_rows f ≡ rows_of_table s
-        ranked k = k.says ∙ ap (rows_found n) turned-flat ∙ p.1 ∙ sym (read-ranked s r)
-
-        pub ranked-refused : {f : Refusal} → EdgesPlaced n flat (Err f) → rows_of_table s ≡ refused f
-        ranked-refused {f} k = sym (ranked {f = Err f} k)
-
-        pub ranked-found : {found : RowsFound} → EdgesPlaced n flat (Ok found) → TableFound s (record { table = t; turned = turned; found = found })
-        ranked-found {found} k = record { told = r; flags = p.0; says = sym (ranked {f = Ok found} k); placed = rw (← turned-flat) k.placed }
+    -- a table whose rows are refused is there
+    pub looped-end : {f : Refusal} → EdgesRanked n t.edges.items (Err f)
+        → (place_end (Err (record { refusal = f; table = Some t })) ≡ place_call s)
+        × TableBest s (place_end (Err (record { refusal = f; table = Some t }))).numbers (place_end (Err (record { refusal = f; table = Some t }))).rows
+    looped-end {f} k = refused-end (record { refusal = f; table = Some t }) (ap contents_of r) (ranked-refused k)
 
   -- ---- the rows call
 

@@ -27,7 +27,7 @@ use Rattle.rows.specs.Answers.{rows_found}
 use Rattle.rows.specs.declared.types.RowsFound.{RowsFound}
 use Rattle.rows.specs.Placed.{FairEdges, Placed, EdgesPlaced}
 use Rattle.rows.proofs.PlacedLaws.{loop-free}
-use Rattle.layering.specs.Calls.{table_rows_found, EdgesTurned}
+use Rattle.layering.specs.Calls.{table_rows_found, RankedBy, EdgesTurned, EdgesRanked}
 
 -- ---- rows that are found
 
@@ -87,9 +87,6 @@ module _ (n : ℕ) (edges : List TableEdge) (fair : Orientable n edges) where
         unset : (i : ℕ) → i < length edges → get_or (take (length edges) (replicate max_edges false)) i false ≡ false
         unset i h = get_or-take (length edges) (replicate max_edges false) i false h ∙ get_or-replicate max_edges i false false (omega (arith, fair.few_edges))
 
-    pub turned-firm : {all turned : ArrayVec Bool} → all.items ≡ replicate max_edges false → turned.items ≡ take (length edges) all.items → EdgesTurned n edges (Ok turned)
-    turned-firm {all} {turned} e f = (f ∙ ap (take (length edges)) e ∙ firm-flags, firm-found)
-
     firm-directed : directed_by (take (length edges) (replicate max_edges false)) edges ≡ oriented_edges n edges
     firm-directed = ap (λ flags. directed_by flags edges) firm-flags ∙ directed-oriented n edges
 
@@ -97,6 +94,12 @@ module _ (n : ℕ) (edges : List TableEdge) (fair : Orientable n edges) where
     pub ranked-firm : (r : Result RowsFound Refusal) → EdgesPlaced n (directed_by (take (length edges) (replicate max_edges false)) edges) r
         → (take (length edges) (replicate max_edges false) ≡ turned_edges n edges) × Placed n (oriented_edges n edges) (table_rows_found n edges) r
     ranked-firm r p = (firm-flags, subst (λ o. Placed n (oriented_edges n edges) o r) firm-found (subst (λ l. EdgesPlaced n l r) firm-directed p))
+
+    -- so with these flags they are ranked as the table's are to be
+    pub turned-firm : {all turned : ArrayVec Bool} → all.items ≡ replicate max_edges false → turned.items ≡ take (length edges) all.items → EdgesTurned n edges (Ok turned)
+    turned-firm {all} {turned} e f =
+        let flags = f ∙ ap (take (length edges)) e in
+        (flags ∙ firm-flags, (firm-found, subst (RankedBy n edges) (sym flags) (record { placed = λ r p. (ranked-firm r p).1 })))
 
   -- ---- a loop of must edges
 
@@ -111,5 +114,28 @@ module _ (n : ℕ) (edges : List TableEdge) (fair : Orientable n edges) where
     unfolding rows_found table_rows_found
     soft-found = rw (oriented-none n edges fair-joining free, free)
 
+    -- with the flags found, what is found for the edges is what is found for the table's
+    ranked-soft : {flags : List Bool} → flags ≡ turned_edges n edges → (r : Result RowsFound Refusal) → EdgesPlaced n (directed_by flags edges) r
+        → Placed n (oriented_edges n edges) (table_rows_found n edges) r
+    ranked-soft e r p =
+        subst (λ o. Placed n (oriented_edges n edges) o r) soft-found
+        (subst (λ l. EdgesPlaced n l r) (ap (λ flags. directed_by flags edges) e ∙ directed-oriented n edges) p)
+
     pub turned-soft : (turned : ArrayVec Bool) → turned.items ≡ turned_edges n edges → EdgesTurned n edges (Ok turned)
-    turned-soft turned e = (e, soft-found)
+    turned-soft turned e = (e, (soft-found, record { placed = ranked-soft e }))
+
+  -- ---- what is found for the edges with the flags that were found
+
+  pub ranked-loop : {f : Refusal} → EdgesTurned n edges (Err f) → EdgesRanked n edges (Err f)
+  ranked-loop e = record { says = sym e; placed = tt }
+
+  module _ {turned : ArrayVec Bool} (p : EdgesTurned n edges (Ok turned)) where
+    pub turned-long : length turned.items ≡ length edges
+    turned-long = ap length p.0 ∙ turned-length n edges
+
+    pub ranked-refused : {f : Refusal} → EdgesPlaced n (directed_by turned.items edges) (Err f) → EdgesRanked n edges (Err f)
+    ranked-refused {f} k = p.1.1.placed (Err f) k
+
+    pub ranked-found : {found : RowsFound} → EdgesPlaced n (directed_by turned.items edges) (Ok found)
+        → EdgesRanked n edges (Ok (record { turned = turned; found = found }))
+    ranked-found {found} k = (p.0, p.1.1.placed (Ok found) k)

@@ -24,7 +24,7 @@ pub fn print_page<const CAP: usize>(bytes: &[u8], page: &mut ArrayVec<u8, CAP>)
 {
     match chart_table(bytes) {
         Ok(charted) => print_chart(bytes, &charted, page),
-        Err(f) => put_refusal(f, page),
+        Err(uncharted) => put_refusal(uncharted.refusal, page),
     }
 }
 

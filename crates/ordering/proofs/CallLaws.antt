@@ -5,23 +5,26 @@ use mathlib.Core.List.{List}
 use Prim.Native.Nat.{ℕ}
 use lib.Dec.{leb}
 use lib.ListN.{length}
-use Rattle.std.specs.Prelude.{Result, Ok, Err}
+use Rattle.std.specs.Prelude.{Some, Result, Ok, Err}
 use Rattle.graph.specs.declared.Edge.{Edge}
 use Rattle.graph.specs.Directed.{directed_by}
 use Rattle.outcome.specs.declared.Refusal.{Refusal}
 use Rattle.outcome.specs.declared.Refusal.TheVariants.{ManyPoints}
 use Rattle.points.specs.Limits.{max_points}
 use Rattle.outcome.specs.Refusal.{Outcome, done, refused, then_do, demand}
-use Rattle.table.specs.Table.{Contents, contents_of, read}
+use Rattle.table.specs.Table.{Contents, read}
 use Rattle.table.specs.Calls.{contents_in}
 use Rattle.acyclic.proofs.OrientedLaws.{turned-length, directed-oriented}
 use Rattle.layering.specs.declared.types.TableRows.{TableRows}
-use Rattle.layering.specs.Calls.{table_rows_found, rows_of_table, oriented_in, steps_in, edges_in}
+use Rattle.layering.specs.declared.types.Unplaced.{Unplaced}
+use Rattle.layering.specs.Calls.{table_rows_found, rows_of_table, oriented_in, steps_in, edges_in, place_call, place_end}
 use Rattle.layering.proofs.CallLaws.{TableFound as RowsOfTable, read-oriented}
 use Rattle.merging.specs.Merged.{merged, drawn_edges}
 use Rattle.ordering.specs.declared.types.Figures.{Figures}
 use Rattle.ordering.specs.declared.types.ChartFound.{ChartFound}
-use Rattle.ordering.specs.Calls.{drawn_in, point_count, unless_many, chart_of_table, charted, chart_out, chart_call, chart_numbers, ChartBest, draw_by, draw_call, draw_end}
+use Rattle.ordering.specs.declared.types.Uncharted.{Uncharted}
+use Rattle.points.specs.Points.{row_count}
+use Rattle.ordering.specs.Calls.{drawn_in, point_count, unless_many, chart_of_table, charted, chart_out, chart_call, chart_numbers, ChartBest, RowsRefused, draw_call, draw_end}
 use Rattle.ordering.specs.Charting.{RowsGiven, held_chart, unless_large, EdgesFound, TableFound, ChartHandedOut}
 use Rattle.ordering.proofs.HandLaws.{handed-best}
 
@@ -90,13 +93,22 @@ module _ (bytes : List ℕ) where
         (subst (λ (k : ℕ). EdgesFound k (directed_by r.turned.items r.table.edges.items) (drawn_edges r.turned.items (merged r.table.edges.items)) ys c) count e)))
 
     -- what the functions behind the chart found is what a layer above is promised
-    pub drawn-end : {c : ChartFound} → TableFound bytes (Ok c) → draw_end (Ok (record { table = r.table; turned = r.turned; chart = c })) ≡ draw_call bytes
-    unfolding draw_call
-    drawn-end {c} h = rw (p.told, ← h.says) (rw (p.flags, h.placed.tall) refl)
+    module _ (e : place_end (Ok r) ≡ place_call bytes) where
+      pub drawn-end : {c : ChartFound} → TableFound bytes (Ok c) → draw_end (Ok (record { table = r.table; turned = r.turned; chart = c })) ≡ draw_call bytes
+      unfolding draw_call
+      drawn-end {c} h = rw (← e, ← h.says) (rw h.placed.tall refl)
 
-  pub refused-end : {r : Refusal} → TableFound bytes (Err r) → draw_end (Err r) ≡ draw_call bytes
-  unfolding draw_call
-  refused-end {r} h = ap (draw_by (contents_of (read bytes))) h.says
+      -- of too many points too: the table and its turned edges are there
+      pub many-end : {f : Refusal} → TableFound bytes (Err f) → draw_end (Err (record { refusal = f; table = Some r.table; turned = r.turned })) ≡ draw_call bytes
+      unfolding draw_call row_count
+      many-end {f} h = rw (← e, ← h.says) refl
+
+  -- and of a table that has no rows
+  pub rowless-end : (u : Unplaced) (x : Uncharted) → place_end (Err u) ≡ place_call bytes → TableFound bytes (Err u.refusal) → RowsRefused u x
+      → (draw_end (Err x) ≡ draw_call bytes) × TableFound bytes (Err x.refusal)
+  unfolding draw_call row_count
+  rowless-end u x e h k =
+      (rw (k.refusal_is, k.table_is, k.none_turned) (rw (← e, ← h.says) refl), subst (λ f. TableFound bytes (Err f)) (sym k.refusal_is) h)
 
   -- ---- the whole chart
 

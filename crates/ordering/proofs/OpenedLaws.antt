@@ -17,8 +17,8 @@ use Rattle.outcome.specs.Refusal.{Outcome, done, refused, then_do, demand}
 use Rattle.table.specs.Table.{Contents, contents_of, read}
 use Rattle.table.specs.Calls.{contents_in}
 use Rattle.acyclic.proofs.OrientedLaws.{turned-length, directed-oriented}
-use Rattle.layering.specs.Calls.{table_rows_found, rows_of_table, oriented_in, turned_in}
-use Rattle.layering.proofs.CallLaws.{read-oriented}
+use Rattle.layering.specs.Calls.{table_rows_found, rows_of_table, oriented_in, turned_in, flags_by, place_call}
+use Rattle.layering.proofs.CallLaws.{read-oriented, place-contents, place-flags}
 use Rattle.rows.specs.Placed.{FairEdges}
 use Rattle.ordering.specs.declared.types.TableChart.{TableChart}
 use Rattle.merging.specs.Merged.{merged, drawn_edges}
@@ -98,12 +98,12 @@ module _ (bytes : List ℕ) {r : TableChart} (e : draw_end (Ok r) ≡ draw_call 
   found : Found bytes (charted_by r.chart)
   found = found_of bytes (charted_by r.chart) h.says
 
-  end : draw_end (Ok r) ≡ draw_by (contents_of (read bytes)) (done (charted_by r.chart))
+  end : draw_end (Ok r) ≡ draw_by (place_call bytes) (done (charted_by r.chart))
   unfolding draw_call
-  end = e ∙ ap (draw_by (contents_of (read bytes))) (sym h.says)
+  end = e ∙ ap (draw_by (place_call bytes)) (sym h.says)
 
   here : contents_in r.table ≡ found.placing.contents
-  here = ap (λ (x : DrawEnd). x.contents) end ∙ ap contents_of found.said
+  here = ap (λ (x : DrawEnd). x.contents) end ∙ place-contents bytes ∙ ap contents_of found.said
 
   ys-are : r.chart.rows.items ≡ found.placing.rows
   ys-are = ap (λ (c : Charted). c.rows) found.holds
@@ -128,7 +128,9 @@ module _ (bytes : List ℕ) {r : TableChart} (e : draw_end (Ok r) ≡ draw_call 
         said = held.said;
         is = held.is;
         rows_found = held.rows_found;
-        flags_are = ap (λ (x : DrawEnd). x.turned) end ∙ ap (λ o. turned_in (contents_of o)) held.said;
+        flags_are =
+            ap (λ (x : DrawEnd). x.turned) end ∙ place-flags bytes ∙ ap (λ o. flags_by o (turned_in (contents_of (read bytes)))) held.rows_found
+            ∙ ap (λ o. turned_in (contents_of o)) held.said;
         best = subst (λ o. Best (length (contents_of o).steps) (oriented_in (contents_of o)) r.chart.rows.items) held.said h.placed.best;
         height_is = h.placed.tall;
         order_is = ap (λ (c : Charted). c.order) held.holds;

@@ -6,13 +6,15 @@ use Rattle.graph.specs.Rows.{at, total, Best}
 use Rattle.outcome.specs.declared.Refusal.{Refusal}
 use Rattle.outcome.specs.declared.Refusal.TheVariants.{ManyPoints, ShortBuffer}
 use Rattle.points.specs.Limits.{max_points}
-use Rattle.outcome.specs.Refusal.{Outcome, done, refused, then_do, demand, numbers_of, answered, refusal_in}
-use Rattle.table.specs.Table.{Contents, contents_of, read}
+use Rattle.outcome.specs.Refusal.{Outcome, done, refused, then_do, demand, numbers_of, told, bare, answered, refusal_in}
+use Rattle.table.specs.Table.{Contents, read}
 use Rattle.table.specs.Calls.{contents_in}
-use Rattle.layering.specs.Calls.{table_rows_found, oriented_in, turned_in, steps_in, edges_in}
+use Rattle.layering.specs.declared.types.Unplaced.{Unplaced}
+use Rattle.layering.specs.Calls.{table_rows_found, oriented_in, turned_in, steps_in, edges_in, contents_beside, PlaceEnd, place_call}
 use Rattle.merging.specs.Merged.{merged, drawn_edges}
 use Rattle.ordering.specs.declared.types.Figures.{Figures}
 use Rattle.ordering.specs.declared.types.TableChart.{TableChart}
+use Rattle.ordering.specs.declared.types.Uncharted.{Uncharted}
 use Rattle.points.specs.Points.{point_rows, row_count}
 use Rattle.fewest.specs.Fewest.{drawing_of}
 
@@ -124,38 +126,35 @@ pub record DrawEnd : Type 0 where
   pub order : List ℕ
   pub figures : Figures
 
--- with a refusal comes no table, and there are no flags and no chart
-abbrev pub draw_refused : Refusal → DrawEnd
-draw_refused r =
-    record {
-      numbers = numbers_of r;
-      contents = contents_of (refused r);
-      turned = [];
-      rows = [];
-      height = 0;
-      order = [];
-      figures = record { points = 0; total = 0; crossings = 0 };
-    }
+-- the chart of an outcome; a refusal has no rows, no points and no figures
+abbrev pub chart_by : Outcome Charted → Charted
+chart_by (done c) = c
+chart_by (refused r) = record { rows = []; order = []; figures = record { points = 0; total = 0; crossings = 0 } }
 
--- a table and its chart
-abbrev pub draw_by : Contents → Outcome Charted → DrawEnd
-draw_by t (done c) =
+-- 0 or the refusal's number, and the chart; the table and what is turned are as the rows leave them
+abbrev pub draw_by : PlaceEnd → Outcome Charted → DrawEnd
+draw_by p o =
     record {
-      numbers = 0 ∷ [];
-      contents = t;
-      turned = turned_in t;
-      rows = c.rows;
-      height = row_count c.rows;
-      order = c.order;
-      figures = c.figures;
+      numbers = told bare o;
+      contents = p.contents;
+      turned = p.turned;
+      rows = (chart_by o).rows;
+      height = row_count (chart_by o).rows;
+      order = (chart_by o).order;
+      figures = (chart_by o).figures;
     }
-draw_by t (refused r) = draw_refused r
 
 unfoldable pub draw_call : List ℕ → DrawEnd
-draw_call bytes = draw_by (contents_of (read bytes)) (chart_out (chart_of_table bytes))
+draw_call bytes = draw_by (place_call bytes) (chart_out (chart_of_table bytes))
+
+-- what a refused table's rows leave is what its chart leaves, and no edge is turned
+pub record RowsRefused (u : Unplaced) (r : Uncharted) : Type 0 where
+  pub refusal_is : r.refusal ≡ u.refusal
+  pub table_is : r.table ≡ u.table
+  pub none_turned : r.turned.items ≡ []
 
 -- what the code answers, in numbers
-abbrev pub draw_end : Result TableChart Refusal → DrawEnd
+abbrev pub draw_end : Result TableChart Uncharted → DrawEnd
 draw_end (Ok r) =
     record {
       numbers = 0 ∷ [];
@@ -166,4 +165,13 @@ draw_end (Ok r) =
       order = r.chart.order.items;
       figures = record { points = length r.chart.order.items; total = r.chart.total; crossings = r.chart.crossings };
     }
-draw_end (Err r) = draw_refused r
+draw_end (Err u) =
+    record {
+      numbers = numbers_of u.refusal;
+      contents = contents_beside u.table;
+      turned = u.turned.items;
+      rows = [];
+      height = 0;
+      order = [];
+      figures = record { points = 0; total = 0; crossings = 0 };
+    }

@@ -14,6 +14,7 @@ use Rattle.rows.specs.Placed.{FairEdges, RowsPlaced}
 use Rattle.ordering.specs.declared.types.Figures.{Figures}
 use Rattle.ordering.specs.declared.types.ChartFound.{ChartFound}
 use Rattle.ordering.specs.declared.types.TableChart.{TableChart}
+use Rattle.ordering.specs.declared.types.Uncharted.{Uncharted}
 use Rattle.points.specs.Points.{row_count}
 use Rattle.buffers.specs.Lists.{Below}
 use Rattle.points.specs.Laying.{Chart}
@@ -67,9 +68,9 @@ abbrev pub TableFound : List ℕ → Result ChartFound Refusal → Type 0
 TableFound bytes r = ChartHeld (steps_in bytes) (edges_in bytes) (chart_out (chart_of_table bytes)) r
 
 -- the chart of an answer
-abbrev pub chart_in : Result TableChart Refusal → Result ChartFound Refusal
+abbrev pub chart_in : Result TableChart Uncharted → Result ChartFound Refusal
 chart_in (Ok t) = Ok t.chart
-chart_in (Err r) = Err r
+chart_in (Err u) = Err u.refusal
 
 -- an outcome handed out in two buffers
 pub record ChartHandedOut (what : Outcome Charted) (rows order rows' order' : List ℕ) (r : Result Figures Refusal) : Type 0 where

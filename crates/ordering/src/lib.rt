@@ -15,7 +15,8 @@ ghost use Rattle.ordering.specs.Charting.{TableFound, chart_in};
 
 use crate::chart::draw_edges;
 use crate::store::hand_out_chart;
-use crate::types::{Figures, TableChart};
+pub use crate::types::Figures;
+use crate::types::{TableChart, Uncharted};
 use layering::place_table;
 use layering::types::TableRows;
 use outcome::Refusal;
@@ -34,8 +35,8 @@ pub fn draw_chart(bytes: &[u8], rows: &mut [Row], order: &mut [u16]) -> Result<F
 }
 
 // The table that the bytes write down, which of its edges are turned, and its chart: what a layer above builds on. Refuses as the rows
-// call does, then too many points.
-pub fn chart_table(bytes: &[u8]) -> Result<TableChart, Refusal>
+// call does, then too many points, and gives the table and what is turned as the rows call leaves them.
+pub fn chart_table(bytes: &[u8]) -> Result<TableChart, Uncharted>
     ensures result_value { draw_end result ≡ draw_call bytes.now }
     ensures table_found { TableFound bytes.now (chart_in result) }
 {
@@ -44,10 +45,16 @@ pub fn chart_table(bytes: &[u8]) -> Result<TableChart, Refusal>
         turned,
         found,
     } = place_table(bytes)?;
-    let chart = draw_edges(&table.edges, &turned, found)?;
-    Ok(TableChart {
-        table,
-        turned,
-        chart,
-    })
+    match draw_edges(&table.edges, &turned, found) {
+        Ok(chart) => Ok(TableChart {
+            table,
+            turned,
+            chart,
+        }),
+        Err(refusal) => Err(Uncharted {
+            refusal,
+            table: Some(table),
+            turned,
+        }),
+    }
 }

@@ -1,7 +1,10 @@
 // What the orderer hands to a layer above.
+ghost use Rattle.std.specs.Prelude.{◌≡◌};
 ghost use Rattle.rows.specs.Limits.{RowsLow};
 
 use arrayvec::ArrayVec;
+use layering::types::Unplaced;
+use outcome::Refusal;
 use points::limits::MAX_POINTS;
 use table::limits::{MAX_EDGES, MAX_STEPS};
 use table::types::Table;
@@ -31,4 +34,37 @@ pub struct TableChart {
     pub table: Table,
     pub turned: ArrayVec<bool, MAX_EDGES>,
     pub chart: ChartFound,
+}
+
+// Why there is no chart, and the table and its turned edges as the rows call leaves them: with too many points both are there, with a loop
+// the table alone.
+#[derive(Drop)]
+pub struct Uncharted {
+    pub refusal: Refusal,
+    pub table: Option<Table>,
+    pub turned: ArrayVec<bool, MAX_EDGES>,
+}
+
+// A table without rows has no chart, and of its edges none is turned.
+impl From<Unplaced> for Uncharted {
+    ghost use Rattle.ordering.specs.Calls.{RowsRefused};
+
+    ghost from_gives = { λ u r. RowsRefused u r };
+
+    fn from(unplaced: Unplaced) -> Uncharted {
+        Uncharted {
+            refusal: unplaced.refusal,
+            table: unplaced.table,
+            turned: ArrayVec::new(),
+        }
+    }
+}
+
+// For a caller that passes on the reason alone.
+impl From<Uncharted> for Refusal {
+    ghost from_gives = { λ u f. f ≡ u.refusal };
+
+    fn from(uncharted: Uncharted) -> Refusal {
+        uncharted.refusal
+    }
 }

@@ -2,14 +2,15 @@
 use Rattle.std.specs.Prelude.{Err, Ok}
 use Rattle.std.proofs.lemmas.Result.{err_from_is_err_and}
 use Rattle.layering.proofs.CallLaws.{place-found, place-refused}
-use Rattle.ordering.proofs.CallLaws.{table-refused, flags-long, table-given, table-drawn, drawn-end, refused-end}
+use Rattle.ordering.proofs.CallLaws.{table-refused, flags-long, table-given, table-drawn, drawn-end, many-end, rowless-end}
 use Rattle.ordering.proofs.chart_table.Goals as goal
 
 pub returns-in_err-table : goal.returns-in_err-table
 returns-in_err-table c =
     let p = err_from_is_err_and c.from_residual.result c.from_residual.ensures.1 in
-    let k = table-refused _ (place-refused _ c.in_err-table.ensures.result_value) in
-    rw (p.1, p.2) (record { result_value = refused-end _ k; table_found = k })
+    let k = table-refused _ (place-refused _ c.in_err-table.field-0.0 c.in_err-table.ensures.result_value) in
+    let e = rowless-end _ c.in_err-table.field-0.0 _ c.in_err-table.ensures.result_value k p.2 in
+    rw p.1 (record { result_value = e.0; table_found = e.1 })
 
 pub draw_edges-requires-clause-rows_given : goal.draw_edges-requires-clause-rows_given
 draw_edges-requires-clause-rows_given c =
@@ -21,15 +22,14 @@ draw_edges-requires-clause-turned_len c =
     let p = place-found _ {r = c.in_ok-table.field-0} c.in_ok-table.ensures.result_value c.in_ok-table.ensures.table_best in
     rw (c.deref.ensures.0, c.deref-2.ensures.0) (flags-long _ p)
 
-pub returns-in_err-chart : goal.returns-in_err-chart
-returns-in_err-chart c =
-    let q = err_from_is_err_and c.from_residual-in_err-chart.result c.from_residual-in_err-chart.ensures.1 in
+pub returns-in-Ok : goal.returns-in-Ok
+returns-in-Ok c =
     let p = place-found _ {r = c.in_ok-table.field-0} c.in_ok-table.ensures.result_value c.in_ok-table.ensures.table_best in
-    let k = table-drawn _ p {c = Err c.in_err-chart.field-0.0} (rw (c.deref.ensures.0, c.deref-2.ensures.0) at c.in_err-chart.ensures) in
-    rw (q.1, q.2) (record { result_value = refused-end _ k; table_found = k })
+    let k = table-drawn _ p {c = Ok c.in-Ok.chart} (rw (c.deref.ensures.0, c.deref-2.ensures.0) at c.in-Ok.ensures) in
+    record { result_value = drawn-end _ p c.in_ok-table.ensures.result_value k; table_found = k }
 
-pub returns : goal.returns
-returns c =
+pub returns-in-Err : goal.returns-in-Err
+returns-in-Err c =
     let p = place-found _ {r = c.in_ok-table.field-0} c.in_ok-table.ensures.result_value c.in_ok-table.ensures.table_best in
-    let k = table-drawn _ p {c = Ok c.in_ok-chart.chart} (rw (c.deref.ensures.0, c.deref-2.ensures.0) at c.in_ok-chart.ensures) in
-    record { result_value = drawn-end _ p k; table_found = k }
+    let k = table-drawn _ p {c = Err c.in-Err.refusal} (rw (c.deref.ensures.0, c.deref-2.ensures.0) at c.in-Err.ensures) in
+    record { result_value = many-end _ p c.in_ok-table.ensures.result_value k; table_found = k }

@@ -7,11 +7,11 @@ use Rattle.rearranging.proofs.find_order.Goals as goal
 
 pub returns-in_err-table-clause-result_value : goal.returns-in_err-table-clause-result_value
 returns-in_err-table-clause-result_value c =
-    search (rules, (ended-refused c.args.bytes.now c.args.row c.args.tries c.args.order.now c.in_err-table.field-0.0 c.in_err-table.ensures.table_found).numbers)
+    search (rules, (ended-refused c.args.bytes.now c.args.row c.args.tries c.args.order.now c.in_err-table.field-0.0.refusal c.in_err-table.ensures.table_found).numbers)
 
 pub returns-in_err-table-clause-order_after : goal.returns-in_err-table-clause-order_after
 returns-in_err-table-clause-order_after c =
-    (ended-refused c.args.bytes.now c.args.row c.args.tries c.args.order.now c.in_err-table.field-0.0 c.in_err-table.ensures.table_found).order
+    (ended-refused c.args.bytes.now c.args.row c.args.tries c.args.order.now c.in_err-table.field-0.0.refusal c.in_err-table.ensures.table_found).order
 
 pub returns-then-row-eq0-clause-result_value : goal.returns-then-row-eq0-clause-result_value
 returns-then-row-eq0-clause-result_value c =

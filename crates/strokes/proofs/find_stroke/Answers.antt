@@ -9,7 +9,7 @@ use Rattle.strokes.proofs.find_stroke.Goals as goal
 
 pub returns-in_err-table-clause-value : goal.returns-in_err-table-clause-value
 returns-in_err-table-clause-value c =
-    search (rules, (ended-refused c.args.bytes.now c.args.index c.in_err-table.field-0.0 c.in_err-table.ensures.table_found).value)
+    search (rules, (ended-refused c.args.bytes.now c.args.index c.in_err-table.field-0.0.refusal c.in_err-table.ensures.table_found).value)
 
 pub returns-then-len-gt-MAX_XS-clause-value : goal.returns-then-len-gt-MAX_XS-clause-value
 returns-then-len-gt-MAX_XS-clause-value c =
