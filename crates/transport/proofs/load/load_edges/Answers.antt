@@ -5,14 +5,18 @@ use Rattle.transport.proofs.LoadLaws as laws
 use Rattle.transport.proofs.load.load_edges.Goals as goal
 
 pub loop-e-init : goal.loop-e-init
-loop-e-init c =
-    (laws.loading-start _ _ _ _ _ _ c.args.rows.now.arcs.shaped c.requires.weight_len c.requires.weight_bound _ _ _ c.requires.flow_value
-    c.requires.supply_value c.requires.demand_value c.requires.held, search rules)
+loop-e-init c = (
+  laws.loading-start _ _ _ _ _ _ c.args.rows.now.arcs.shaped c.requires.weight_len c.requires.weight_bound _ _ _ c.requires.flow_value
+      c.requires.supply_value c.requires.demand_value c.requires.held,
+  search rules,
+)
 
 pub loop-e-preserved : goal.loop-e-preserved
-loop-e-preserved c =
-    (laws.loading-turn _ _ _ _ _ _ c.args.rows.now.arcs.shaped c.requires.weight_len c.requires.weight_bound _ _ _ _ c.loop-e.invariant.0 (omega arith) _ _ _
-    c.load_edge.ensures.loads, search rules)
+loop-e-preserved c = (
+  laws.loading-turn _ _ _ _ _ _ c.args.rows.now.arcs.shaped c.requires.weight_len c.requires.weight_bound _ _ _ _ c.loop-e.invariant.0 (omega arith) _ _ _
+      c.load_edge.ensures.loads,
+  search rules,
+)
 
 pub load_edge-requires-clause-e_bound : goal.load_edge-requires-clause-e_bound
 load_edge-requires-clause-e_bound c =
