@@ -10,18 +10,18 @@ ghost use Rattle.graph.specs.Rows.{Within};
 ghost use Rattle.table.specs.Limits.{max_edges};
 ghost use Rattle.flatten.specs.Even.{Even};
 
-use arrayvec::ArrayVec;
 use graph::Edge;
+use lists::CopyList;
 use relaxation::net::Arcs;
 use table::limits::MAX_EDGES;
 
 // Edges in flat lists, one list a field, of at most so many.
-#[derive(Drop)]
+#[derive(Clone, Copy)]
 pub struct EdgeLists<const CAP: usize> {
-    pub from: ArrayVec<usize, CAP>,
-    pub to: ArrayVec<usize, CAP>,
-    pub gap: ArrayVec<usize, CAP>,
-    pub weight: ArrayVec<usize, CAP>,
+    pub from: CopyList<usize, CAP>,
+    pub to: CopyList<usize, CAP>,
+    pub gap: CopyList<usize, CAP>,
+    pub weight: CopyList<usize, CAP>,
     ghost even: { Even from.items to.items gap.items weight.items },
 }
 
@@ -36,10 +36,10 @@ impl<const CAP: usize> EdgeLists<CAP> {
         ensures { flat_edges result ≡ [] }
     {
         EdgeLists {
-            from: ArrayVec::<usize, CAP>::new(),
-            to: ArrayVec::<usize, CAP>::new(),
-            gap: ArrayVec::<usize, CAP>::new(),
-            weight: ArrayVec::<usize, CAP>::new(),
+            from: CopyList::<usize, CAP>::new(),
+            to: CopyList::<usize, CAP>::new(),
+            gap: CopyList::<usize, CAP>::new(),
+            weight: CopyList::<usize, CAP>::new(),
         }
     }
 

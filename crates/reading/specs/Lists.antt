@@ -1,11 +1,11 @@
 -- What the answers of the reader's lists stand for.
 use Rattle.std.specs.Prelude.{◌≡◌, List, ℕ, ◌^◌, ◌<◌, Result, Ok, Err}
-use Rattle.arrayvec.specs.ArrayVec.{ArrayVec}
+use Rattle.lists.specs.Listed.{Listed}
 use Rattle.outcome.specs.declared.Refusal.{Refusal}
 use Rattle.table.specs.Number.{Read, got, fault, read_of}
 
 -- the items and the place behind them, or the fault
-abbrev pub list_of : {A : Type 0} → Result (ArrayVec A × ℕ) Refusal → Read (List A)
+abbrev pub list_of : {A : Type 0} → Result (Listed A × ℕ) Refusal → Read (List A)
 list_of (Ok r) = got r.0.items r.1
 list_of (Err f) = fault f
 

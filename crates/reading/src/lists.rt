@@ -5,18 +5,18 @@ ghost use Rattle.table.specs.Number.{Read, many};
 ghost use Rattle.table.specs.Table.{steps_at, edges_at};
 ghost use Rattle.reading.specs.Lists.{list_of, Reads};
 
-use arrayvec::ArrayVec;
 use graph::TableEdge;
+use lists::{Blank, CopyList};
 use outcome::Refusal;
 use table::limits::{MAX_EDGES, MAX_STEPS};
 use table::source::Source;
 use table::types::Step;
 
 // A list and the place behind it, or the first fault.
-pub type ListRead<T, const CAP: usize> = Result<(ArrayVec<T, CAP>, usize), Refusal>;
+pub type ListRead<T, const CAP: usize> = Result<(CopyList<T, CAP>, usize), Refusal>;
 
 // So many items, one behind the other, each as `item` reads it.
-fn many<T: Default + Drop, const CAP: usize, F: Fn(usize) -> Result<(T, usize), Refusal>>(
+fn many<T: Blank, const CAP: usize, F: Fn(usize) -> Result<(T, usize), Refusal>>(
     item: F,
     count: usize,
     at: usize,
@@ -25,7 +25,7 @@ fn many<T: Default + Drop, const CAP: usize, F: Fn(usize) -> Result<(T, usize), 
     requires room { count ≤ CAP }
     ensures { (read : ℕ → Read T) → Reads (F.post item) read → list_of result ≡ many read count at }
 {
-    let mut list = ArrayVec::new();
+    let mut list = CopyList::new();
     let mut next = at;
     for _ in 0..count {
         let (read, after) = item(next)?;

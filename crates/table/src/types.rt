@@ -1,7 +1,9 @@
 // What the reader gives: steps, and the table.
+ghost use Rattle.table.specs.Calls.{no_step};
+
 use crate::limits::{MAX_EDGES, MAX_STEPS};
-use arrayvec::ArrayVec;
 use graph::TableEdge;
+use lists::{Blank, CopyList};
 
 // What a step is, with the number that its kind carries: hundredths of a dB for an adjustment, minutes for a wait.
 #[derive(Clone, Copy, Debug, Default, PartialEq, Eq)]
@@ -20,9 +22,21 @@ pub struct Step {
     pub len: usize,
 }
 
+impl Blank for Step {
+    ghost blank = { no_step };
+
+    fn blank() -> Step {
+        Step {
+            kind: Kind::Check,
+            start: 0,
+            len: 0,
+        }
+    }
+}
+
 // A table: its steps and its edges, in the table's order.
-#[derive(Drop)]
+#[derive(Clone, Copy)]
 pub struct Table {
-    pub steps: ArrayVec<Step, MAX_STEPS>,
-    pub edges: ArrayVec<TableEdge, MAX_EDGES>,
+    pub steps: CopyList<Step, MAX_STEPS>,
+    pub edges: CopyList<TableEdge, MAX_EDGES>,
 }

@@ -1,0 +1,2 @@
+-- Why a list keeps its blanks.
+pub mod FilledLaws

@@ -1,0 +1,2 @@
+-- What a contract sees of a list.
+pub mod Listed
