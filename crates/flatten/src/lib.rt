@@ -10,8 +10,8 @@ ghost use Rattle.graph.specs.Rows.{Within};
 ghost use Rattle.table.specs.Limits.{max_edges};
 ghost use Rattle.flatten.specs.Even.{Even};
 
+use copylist::CopyList;
 use graph::Edge;
-use lists::CopyList;
 use relaxation::net::Arcs;
 use table::limits::MAX_EDGES;
 

@@ -1,6 +1,6 @@
 -- What the answers of the reader's lists stand for.
 use Rattle.std.specs.Prelude.{◌≡◌, List, ℕ, ◌^◌, ◌<◌, Result, Ok, Err}
-use Rattle.lists.specs.Listed.{Listed}
+use Rattle.copylist.specs.Listed.{Listed}
 use Rattle.outcome.specs.declared.Refusal.{Refusal}
 use Rattle.table.specs.Number.{Read, got, fault, read_of}
 

@@ -5,8 +5,8 @@ ghost use Rattle.table.specs.Number.{Read, many};
 ghost use Rattle.table.specs.Table.{steps_at, edges_at};
 ghost use Rattle.reading.specs.Lists.{list_of, Reads};
 
+use copylist::{Blank, CopyList};
 use graph::TableEdge;
-use lists::{Blank, CopyList};
 use outcome::Refusal;
 use table::limits::{MAX_EDGES, MAX_STEPS};
 use table::source::Source;

@@ -2,8 +2,8 @@
 ghost use Rattle.table.specs.Calls.{no_step};
 
 use crate::limits::{MAX_EDGES, MAX_STEPS};
+use copylist::{Blank, CopyList};
 use graph::TableEdge;
-use lists::{Blank, CopyList};
 
 // What a step is, with the number that its kind carries: hundredths of a dB for an adjustment, minutes for a wait.
 #[derive(Clone, Copy, Debug, Default, PartialEq, Eq)]

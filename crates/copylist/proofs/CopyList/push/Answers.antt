@@ -1,8 +1,8 @@
 -- The element takes the first blank place, and the others stay blank.
 use Rattle.std.proofs.Common.{ap, ◌∙◌, ◌<◌, arith, length, length-take-le}
 use Rattle.std.proofs.lemmas.List.{length-set}
-use Rattle.lists.proofs.FilledLaws.{filled-set}
-use Rattle.lists.proofs.CopyList.push.Goals as goal
+use Rattle.copylist.proofs.FilledLaws.{filled-set}
+use Rattle.copylist.proofs.CopyList.push.Goals as goal
 
 pub invariant_of-self : goal.invariant_of-self
 invariant_of-self g c =

@@ -22,7 +22,7 @@ pub struct CopyList<T: Blank, const CAP: usize> {
 impl<T: Blank, const CAP: usize> Model for CopyList<T, CAP> {
     ghost use Rattle.std.specs.Prelude.{◌≡◌, ◌≤◌, length, take};
     ghost use Rattle.std.proofs.Common.{arith, sym, length-take-le};
-    ghost use Rattle.lists.specs.Listed.{Listed, listed_code, filled};
+    ghost use Rattle.copylist.specs.Listed.{Listed, listed_code, filled};
 
     ghost Value = { Listed T };
 

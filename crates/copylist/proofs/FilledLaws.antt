@@ -3,7 +3,7 @@ use Rattle.std.proofs.Common.{◌≡◌, sym, ap, ◌∙◌, ℕ, suc, ◌+◌, 
 use Rattle.std.proofs.Math.ListN.{set}
 use Rattle.std.proofs.Math.Seq.{set-append_seam}
 use Rattle.std.proofs.lemmas.List.{append_assoc, length_push, take_more_set}
-use Rattle.lists.specs.Listed.{filled}
+use Rattle.copylist.specs.Listed.{filled}
 
 module _ {T : Type 0} (none x : T) (room : ℕ) (front : List T) (h : length front < room) where
   first : replicate (room - length front) none ≡ none ∷ replicate (room - length front - 1) none
