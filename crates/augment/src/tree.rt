@@ -13,7 +13,6 @@ use crate::exit::{Search, next_exit};
 use relaxation::arcs::put_node;
 use relaxation::net::Arcs;
 use relaxation::scratch::{Hints, Tree};
-use transport::stock::Stock;
 
 // The far end of edge a marked.
 pub fn mark_end(
@@ -67,19 +66,20 @@ pub fn grow_tree(
     y: &mut [usize],
     flow: &[usize],
     tree: &mut Tree<'_>,
-    stock: &Stock<'_>,
+    supply: &[usize],
+    demand: &[usize],
     hints: &mut Hints<'_>,
     s: usize,
 ) -> usize
     requires lengths { Lengths arcs.now.n y.old tree.old.rank.now tree.old.parent.now tree.old.capacity.now }
     requires narrow { Narrow arcs.now.gap.now arcs.now.n }
-    requires flows { (weight : List ℕ) × ((length weight ≡ length arcs.now.from.now) × Flows arcs.now.from.now arcs.now.to.now arcs.now.gap.now weight arcs.now.n y.old flow.now stock.now.supply.now stock.now.demand.now) }
+    requires flows { (weight : List ℕ) × ((length weight ≡ length arcs.now.from.now) × Flows arcs.now.from.now arcs.now.to.now arcs.now.gap.now weight arcs.now.n y.old flow.now supply.now demand.now) }
     requires rows_low { RowsLow arcs.now.n calm_limit y.old }
     requires s_lt_n { s < arcs.now.n }
-    requires s_nonzero { 0 < at stock.now.supply.now s }
+    requires s_nonzero { 0 < at supply.now s }
     requires amount_nonzero { 0 < at tree.old.capacity.now s }
     requires planted { Planted arcs.now.n s (at tree.old.capacity.now s) tree.old.rank.now tree.old.capacity.now }
-    ensures grown { Grown arcs.now.from.now arcs.now.to.now arcs.now.gap.now flow.now arcs.now.n s (at tree.old.capacity.now s) peak_limit stock.now.demand.now y.old y.new tree.new.rank.now tree.new.parent.now tree.new.capacity.now result }
+    ensures grown { Grown arcs.now.from.now arcs.now.to.now arcs.now.gap.now flow.now arcs.now.n s (at tree.old.capacity.now s) peak_limit demand.now y.old y.new tree.new.rank.now tree.new.parent.now tree.new.capacity.now result }
     ensures tree { TreeKept tree.old tree.new }
     ensures hints { HintsKept hints.old hints.new }
 {
@@ -87,7 +87,7 @@ pub fn grow_tree(
     let mut t = s;
     let mut search = Search::default();
     put_node(hints.queue, 0, s);
-    while stock.demand[t] == 0 {
+    while demand[t] == 0 {
         let marked = count - 1;
         search = next_exit(arcs, flow, y, tree, hints, marked, search);
         // Lent on as `&mut`: of a slice that a struct behind a `&mut` lends shared the proof no longer knows what it holds.

@@ -75,7 +75,10 @@ pub fn drain_node(
     let mut amount = stock.supply[s];
     while amount > 0 {
         plant_root(tree, net.arcs.n, s, amount);
-        let t = grow_tree(&net.arcs, y, flow, tree, stock, hints, s);
+        // Lent on as `&mut`: of a slice that a struct behind a `&mut` lends shared the proof no longer knows what it holds.
+        let supply = &mut *stock.supply;
+        let demand = &mut *stock.demand;
+        let t = grow_tree(&net.arcs, y, flow, tree, supply, demand, hints, s);
         amount = send_flow(net, y, flow, tree, stock, s, t);
     }
 }

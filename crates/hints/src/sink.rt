@@ -3,7 +3,7 @@
 ghost use Rattle.std.specs.Prelude.{◌≡◌, ◌≤◌, length, drop};
 
 use relaxation::arcs::next_link;
-use relaxation::net::{Arcs, Links, Net};
+use relaxation::net::{Arcs, Net};
 
 // A number from it on stands for one below 0: sums go round the end of a word, in room that is lent as numbers.
 const BELOW_ZERO: usize = 9223372036854775808;
@@ -48,7 +48,14 @@ fn list_room(arcs: &Arcs<'_>, y: &[usize], next: &[usize], first: usize) -> usiz
 }
 
 // One node moved, in the first n entries of y.
-fn sink_node(arcs: &Arcs<'_>, y: &mut [usize], pull: &[usize], outs: &Links<'_>, v: usize)
+fn sink_node(
+    arcs: &Arcs<'_>,
+    y: &mut [usize],
+    pull: &[usize],
+    out_head: &[usize],
+    out_next: &[usize],
+    v: usize,
+)
     requires { arcs.now.n ≤ length y.old }
     ensures { drop arcs.now.n y.new ≡ drop arcs.now.n y.old }
 {
@@ -59,8 +66,8 @@ fn sink_node(arcs: &Arcs<'_>, y: &mut [usize], pull: &[usize], outs: &Links<'_>,
     if more == 0 || more >= BELOW_ZERO {
         return;
     }
-    let first = outs.head.get(v).copied().unwrap_or(0);
-    y[v] = list_room(arcs, y, outs.next, first);
+    let first = out_head.get(v).copied().unwrap_or(0);
+    y[v] = list_room(arcs, y, out_next, first);
 }
 
 // The nodes moved, in their order. `pull` is scratch.
@@ -68,7 +75,8 @@ pub fn sink_nodes(
     net: &Net<'_>,
     y: &mut [usize],
     pull: &mut [usize],
-    outs: &Links<'_>,
+    out_head: &[usize],
+    out_next: &[usize],
     order: &[usize],
 )
     requires { net.now.arcs.n ≤ length y.old }
@@ -76,6 +84,6 @@ pub fn sink_nodes(
 {
     weigh_nodes(net, pull);
     for &v in order {
-        sink_node(&net.arcs, y, pull, outs, v);
+        sink_node(&net.arcs, y, pull, out_head, out_next, v);
     }
 }

@@ -37,13 +37,18 @@ pub fn solve(net: &Net<'_>, y: &mut [usize], flow: &mut [usize], work: &mut Work
 {
     work.hints.outs.link_edges(net.arcs.from);
     work.hints.ins.link_edges(net.arcs.to);
+    // Each list as a loan of its own: through the struct they could not be lent beside the tree, the stock and the rows.
+    let outs = &mut work.hints.outs;
+    let out_head = &mut *outs.head;
+    let out_next = &mut *outs.next;
     start_flow(
         net,
         y,
         flow,
         &mut work.tree,
         &mut work.stock,
-        &work.hints.outs,
+        out_head,
+        out_next,
         work.lowest,
     );
     ease_flow(

@@ -9,6 +9,7 @@ ghost use Rattle.relaxation.specs.Network.{Shaped};
 ghost use Rattle.relaxation.specs.Relax.{Holder, Sums, TailIs, MovedIs, Eases, Heights, Swept};
 
 use crate::net::Arcs;
+use buffers::copy_all;
 
 // Where the tail of an edge goes that is in row lo, with gap g below the head in row hi and flow x.
 fn lift_tail(lo: usize, g: usize, hi: usize, x: usize) -> usize
@@ -96,6 +97,6 @@ pub fn relax_above(arcs: &Arcs<'_>, flow: &[usize], y: &mut [usize], lowest: &[u
     requires heights { Heights arcs.now.from.now arcs.now.to.now arcs.now.gap.now [] arcs.now.n lowest.now }
     ensures { Relaxed arcs.now.from.now arcs.now.to.now arcs.now.gap.now flow.now arcs.now.n y.old y.new }
 {
-    y[..arcs.n].copy_from_slice(&lowest[..arcs.n]);
+    copy_all(&lowest[..arcs.n], &mut y[..arcs.n]);
     lift_rows(arcs, flow, y);
 }

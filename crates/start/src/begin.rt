@@ -10,7 +10,7 @@ ghost use Rattle.transport.specs.Stocks.{StockKept};
 
 use crate::rows::start_rows;
 use hints::forest::grow_forest;
-use relaxation::net::{Links, Net};
+use relaxation::net::Net;
 use relaxation::scratch::{Hints, Tree};
 use transport::load::load_edges;
 use transport::rows::Rows;
@@ -26,7 +26,8 @@ pub fn start_flow(
     flow: &mut [usize],
     tree: &mut Tree<'_>,
     stock: &mut Stock<'_>,
-    outs: &Links<'_>,
+    out_head: &[usize],
+    out_next: &[usize],
     lowest: &mut [usize],
 )
     requires bounded { Bounded net.now.arcs.from.now net.now.arcs.to.now net.now.arcs.gap.now net.now.arcs.n row_limit }
@@ -43,7 +44,7 @@ pub fn start_flow(
     flow.fill(0);
     stock.supply.fill(0);
     stock.demand.fill(0);
-    start_rows(net, flow, y, tree, outs, lowest);
+    start_rows(net, flow, y, tree, out_head, out_next, lowest);
     load_edges(&Rows { arcs: net.arcs, y }, net.weight, flow, stock);
 }
 

@@ -6,11 +6,12 @@ ghost use Rattle.relaxation.specs.Limits.{row_limit};
 ghost use Rattle.relaxation.specs.Relax.{Holder};
 ghost use Rattle.relaxation.specs.Loans.{TreeKept};
 
+use buffers::copy_all;
 use hints::order::order_nodes;
 use hints::sink::sink_nodes;
 use lowest::{find_short, lowest_rows};
 use relaxation::low::find_high;
-use relaxation::net::{Links, Net};
+use relaxation::net::Net;
 use relaxation::relax::relax_edges;
 use relaxation::scratch::Tree;
 
@@ -32,7 +33,8 @@ pub fn start_rows(
     flow: &[usize],
     y: &mut [usize],
     tree: &mut Tree<'_>,
-    outs: &Links<'_>,
+    out_head: &[usize],
+    out_next: &[usize],
     lowest: &mut [usize],
 )
     requires n_in_bounds { net.now.arcs.n ≤ length y.old }
@@ -45,8 +47,8 @@ pub fn start_rows(
 {
     let order = &mut *tree.capacity;
     lowest_rows(&net.arcs, flow, y, tree.rank);
-    lowest.copy_from_slice(&y[..net.arcs.n]);
+    copy_all(&y[..net.arcs.n], lowest);
     order_nodes(y, tree.rank, tree.parent, order);
-    sink_nodes(net, y, tree.rank, outs, order);
+    sink_nodes(net, y, tree.rank, out_head, out_next, order);
     accept_rows(net, flow, y);
 }

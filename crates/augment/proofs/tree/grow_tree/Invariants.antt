@@ -7,7 +7,7 @@ use Rattle.augment.proofs.tree.grow_tree.Given as goal
 
 abbrev pub invariant-loop-t : goal.invariant-loop-t
 invariant-loop-t l =
-    Growing l.arcs.from.now l.arcs.to.now l.arcs.gap.now l.flow l.arcs.n l.s (at l.initial.tree.capacity.now l.s) calm_limit l.stock.demand.now l.initial.y l.y l.tree.rank.now l.tree.parent.now l.tree.capacity.now l.count l.t
+    Growing l.arcs.from.now l.arcs.to.now l.arcs.gap.now l.flow l.arcs.n l.s (at l.initial.tree.capacity.now l.s) calm_limit l.demand l.initial.y l.y l.tree.rank.now l.tree.parent.now l.tree.capacity.now l.count l.t
     × TreeKept l.initial.tree l.tree × HintsKept l.initial.hints l.hints
 
 abbrev pub decreases-loop-t : goal.decreases-loop-t

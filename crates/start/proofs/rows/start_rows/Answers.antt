@@ -7,6 +7,6 @@ returns-clause-rows c =
     let x = c.lowest_rows.ensures in
     record {
       lowered = lowered-join _ _ _ _ _ _ _ _ _ x (omega arith) c.sink_nodes.ensures c.accept_rows.ensures;
-      heights = lowest-heights _ _ _ _ _ _ _ _ c.requires.flow_value x c.copy_from_slice.ensures.after;
+      heights = lowest-heights _ _ _ _ _ _ _ _ c.requires.flow_value x c.copy_all.ensures;
       lowest_long = (omega arith);
     }
