@@ -13,7 +13,6 @@ ghost use Rattle.rearranging.specs.Calls.{order_call, order_numbers, OrderShown}
 use crate::arrange::arrange_row;
 use ordering::chart::merge_ends;
 use ordering::chart_table;
-use ordering::types::TableChart;
 use outcome::Refusal;
 use points::Layout;
 
@@ -38,15 +37,12 @@ pub fn find_order(
     ensures order_after { order.new ≡ (order_call bytes.now row tries order.old).order }
     ensures order_shown { OrderShown bytes.now row tries (order_numbers result) order.new }
 {
-    let TableChart {
-        table,
-        turned,
-        chart,
-    } = chart_table(bytes)?;
-    if row == 0 || chart.height <= row {
+    let charted = chart_table(bytes)?;
+    if row == 0 || charted.chart.height <= row {
         return Err(Refusal::BadRow);
     }
-    let ends = merge_ends(&table.edges, &turned);
+    let chart = &charted.chart;
+    let ends = merge_ends(&charted.table.edges, &charted.turned);
     let layout = Layout {
         rows: &chart.rows,
         from: &ends.from,

@@ -53,6 +53,7 @@ pub fn order_points(chart: &FlatChart<'_>, points: &[usize], r: usize, tries: us
     let mut pos = [0usize; MAX_POINTS];
     place_row(above.as_slice(), &mut pos);
     place_row(points, &mut pos);
-    let segments = pick_segments(chart, &pos, r - 1);
+    let mut segments = ArrayVec::new();
+    pick_segments(chart, &pos, r - 1, &mut segments);
     order_segments(points.len(), segments.as_slice(), tries)
 }

@@ -10,13 +10,18 @@ use arrayvec::ArrayVec;
 use pairs::Ends;
 use rooms::MAX_SEGMENTS;
 
-// Those from row r, in their order.
-pub fn pick_segments(chart: &FlatChart<'_>, pos: &[usize], r: usize) -> ArrayVec<Ends, MAX_SEGMENTS>
+// Those from row r, in their order: what a list has then. It is lent, since its whole room would be copied where it was handed out.
+pub fn pick_segments(
+    chart: &FlatChart<'_>,
+    pos: &[usize],
+    r: usize,
+    picked: &mut ArrayVec<Ends, MAX_SEGMENTS>,
+)
     requires pickable { Pickable chart.now.upper.now chart.now.lower.now chart.now.row.now pos.now }
     requires few { length chart.now.upper.now ≤ segment_room max_points }
-    ensures { placed r result.items ≡ starting_in chart.now.upper.now chart.now.lower.now chart.now.row.now pos.now r }
+    ensures { placed r picked.new.items ≡ starting_in chart.now.upper.now chart.now.lower.now chart.now.row.now pos.now r }
 {
-    let mut picked = ArrayVec::new();
+    picked.clear();
     for (&u, &l) in chart.upper.iter().zip(chart.lower) {
         if chart.row[u] == r {
             picked.push(Ends {
@@ -25,5 +30,4 @@ pub fn pick_segments(chart: &FlatChart<'_>, pos: &[usize], r: usize) -> ArrayVec
             });
         }
     }
-    picked
 }

@@ -19,12 +19,12 @@ place_row-requires-2 c =
 
 pub order_segments-requires-clause-few_ends : goal.order_segments-requires-clause-few_ends
 order_segments-requires-clause-few_ends c =
-    let s = ap (placed (c.args.r - 1)) c.as_slice-2.ensures.value ∙ c.pick_segments-segments.ensures in
+    let s = ap (placed (c.args.r - 1)) c.as_slice-2.ensures.value ∙ c.pick_segments.ensures in
     laws.few-ends c.requires.stack c.requires.points_value c.requires.points_len_bound _ (c.as_slice.ensures.value ∙ c.gather_row-above.ensures) _ c.place_row.ensures
     _ c.place_row-2.ensures _ s
 
 pub returns : goal.returns
 returns c =
-    let s = ap (placed (c.args.r - 1)) c.as_slice-2.ensures.value ∙ c.pick_segments-segments.ensures in
+    let s = ap (placed (c.args.r - 1)) c.as_slice-2.ensures.value ∙ c.pick_segments.ensures in
     laws.row-found c.requires.stack c.requires.points_value c.requires.points_len_bound _ (c.as_slice.ensures.value ∙ c.gather_row-above.ensures) _ c.place_row.ensures
     _ c.place_row-2.ensures _ s _ _ _ _ c.order_segments.ensures
