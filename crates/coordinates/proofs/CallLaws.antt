@@ -38,6 +38,7 @@ use Rattle.ordering.proofs.OpenedLaws.{Opened, opened-mergeable, opened-drawn, o
 use Rattle.spacing.specs.Limits.{max_xs}
 use Rattle.coordinates.specs.Calls.{ChartX, chart_xs, Spacing, spacing, unless_past, xs_of_table, XsEnd, xs_end, xs_call, xs_numbers, rows_held, lines_in, LowX, XsBest}
 use Rattle.coordinates.specs.Costing.{Lined, LinesSpaced}
+use Rattle.coordinates.proofs.SpaceLaws.{split-of}
 
 -- what the call promises of an answer and the buffer at its end
 abbrev pub Ended : List ℕ → List ℕ → List ℕ → Result ℕ Refusal → Type 0
@@ -132,13 +133,13 @@ module _ {bytes : List ℕ} {r : TableChart} (o : Opened bytes r) (old : List �
       ended-spaced h found s new e = (numbers, (stored, λ zero. (best, low)))
         where
           best-found : ChartX rows drawn (take (point_count rows drawn) found)
-          best-found = subst (λ (es : List Edge). ChartX rows es (take (point_count rows es) found)) flat-drawn s.best
+          best-found = s.best drawn (split-of ends flat-drawn)
 
           points-found : take (length order) found ≡ take (point_count rows drawn) found
           points-found = ap (λ (k : ℕ). take k found) o.points_are
 
           xs-are : chart_xs rows drawn ≡ take (length order) found
-          xs-are = subst (λ (es : List Edge). chart_xs rows es ≡ take (point_count rows es) found) flat-drawn s.is ∙ sym points-found
+          xs-are = s.is drawn (split-of ends flat-drawn) ∙ sym points-found
 
           count : length (take (length order) found) ≡ length order
           count = ap length points-found ∙ best-found.one_a_point ∙ sym o.points_are

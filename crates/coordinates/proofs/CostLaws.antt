@@ -12,11 +12,12 @@ use Rattle.graph.specs.declared.Edge.{Edge}
 use Rattle.graph.specs.Rows.{at}
 use Rattle.graph.specs.Search.{run}
 use Rattle.points.specs.Points.{Segment, between, chain, segments_from, segments}
+use Rattle.points.proofs.PointLaws.{tails, heads}
 use Rattle.spacing.specs.Limits.{plain_factor, end_factor, inner_factor}
 use Rattle.spacing.specs.Coordinates.{Costed}
 use Rattle.spacing.specs.Flat.{costed_of}
 use Rattle.coordinates.specs.Costs.{priced, costed_from, chart_costed}
-use Rattle.coordinates.specs.Costing.{factor_at, line_costs, costs_from}
+use Rattle.coordinates.specs.Costing.{factor_at, line_costs, costs_from, lines_of}
 
 abbrev pub weights : List Edge → List ℕ
 weights edges = map (λ (e : Edge). e.weight) edges
@@ -97,6 +98,23 @@ flat-again (s ∷ cs) = ap (λ (l : List Costed). s ∷ l) (flat-again cs)
 pub costed-flat : (ys : List ℕ) (edges : List Edge) → Ends (length ys) edges
     → costed_of (map (λ (s : Segment). s.upper) (segments ys edges)) (map (λ (s : Segment). s.lower) (segments ys edges)) (costs_from ys edges) ≡ chart_costed ys edges
 costed-flat ys edges ends = rw (← chart-segments ys edges, ← chart-costs ys edges ends) (flat-again (chart_costed ys edges))
+
+-- ---- gaps play no part
+
+pub any-costs : (ys : List ℕ) (edges : List Edge) → costs_from ys (lines_of (tails edges) (heads edges) (weights edges)) ≡ costs_from ys edges
+unfolding costs_from lines_of
+any-costs ys [] = refl
+any-costs ys (e ∷ edges) = ap (λ (l : List ℕ). line_costs e.weight (between ys e) ++ l) (any-costs ys edges)
+
+costed-by-ends : (n : ℕ) (ys : List ℕ) (d : ℕ) (edges : List Edge) → costed_from n ys d (lines_of (tails edges) (heads edges) (weights edges)) ≡ costed_from n ys d edges
+unfolding costed_from lines_of
+costed-by-ends n ys d [] = refl
+costed-by-ends n ys d (e ∷ edges) =
+    ap (λ (l : List Costed). map (priced n e.weight) (chain e.from e.to d (between ys e)) ++ l) (costed-by-ends n ys (d + between ys e) edges)
+
+pub any-costed : (ys : List ℕ) (edges : List Edge) → chart_costed ys (lines_of (tails edges) (heads edges) (weights edges)) ≡ chart_costed ys edges
+unfolding chart_costed
+any-costed ys edges = costed-by-ends (length ys) ys (length ys) edges
 
 -- ---- how large a cost is
 

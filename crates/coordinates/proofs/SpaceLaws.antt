@@ -21,11 +21,13 @@ use Rattle.flatten.specs.Flat.{Flat}
 use Rattle.flatten.specs.Flat.{flat_edges}
 use Rattle.ordering.specs.Calls.{point_count}
 use Rattle.ordering.proofs.SplitLaws.{flat-tails, flat-heads, flat-weights}
+use Rattle.ordering.proofs.ChartLaws.{drawing-of-ends}
 use Rattle.spacing.specs.Limits.{max_xs, max_segments, inner_factor}
 use Rattle.spacing.specs.Flat.{costed_of, Ordered, Priced, Spaceable, FoundX}
 use Rattle.coordinates.specs.Costs.{chart_costed}
-use Rattle.coordinates.specs.Costing.{costs_from, Light, Lined, LinesSpaced}
-use Rattle.coordinates.proofs.CostLaws.{weights, Ends, none, one, All≤, costed-flat, costs-low, all-at, all_of}
+use Rattle.coordinates.specs.Calls.{ChartX, chart_xs}
+use Rattle.coordinates.specs.Costing.{costs_from, Light, Lined, Split, LinesSpaced}
+use Rattle.coordinates.proofs.CostLaws.{weights, Ends, none, one, All≤, costed-flat, any-costed, costs-low, all-at, all_of}
 use Rattle.coordinates.proofs.LayLaws.{costs-length}
 use Rattle.coordinates.proofs.OrderLaws.{drawing-ordered}
 
@@ -94,6 +96,36 @@ module _ (ys from to weight : List ℕ) (drawn : List Edge) (ef : from ≡ tails
               priced = rw all lists-priced;
               few = omega (arith, all);
             }
+
+-- ---- edges with the ends and the weights of a flat list, which have its chart
+
+pub split-of : (ends : Flat) {edges : List Edge} → flat_edges ends ≡ edges → Split edges ends
+split-of ends e = record { tails = flat-tails ends e; heads = flat-heads ends e; weights = flat-weights ends e }
+
+module _ (ys : List ℕ) (ends : Flat) (edges : List Edge) (s : Split edges ends) where
+  same-tails : tails (flat_edges ends) ≡ tails edges
+  same-tails = sym (flat-tails ends refl) ∙ s.tails
+
+  same-heads : heads (flat_edges ends) ≡ heads edges
+  same-heads = sym (flat-heads ends refl) ∙ s.heads
+
+  same-weights : weights (flat_edges ends) ≡ weights edges
+  same-weights = sym (flat-weights ends refl) ∙ s.weights
+
+  pub rows-alike : point_rows ys (flat_edges ends) ≡ point_rows ys edges
+  rows-alike = sym (any-points ys (flat_edges ends)) ∙ rw (same-tails, same-heads) (any-points ys edges)
+
+  drawing-alike : drawing_of ys (flat_edges ends) ≡ drawing_of ys edges
+  drawing-alike = sym (drawing-of-ends ys (flat_edges ends)) ∙ rw (same-tails, same-heads) (drawing-of-ends ys edges)
+
+  costed-alike : chart_costed ys (flat_edges ends) ≡ chart_costed ys edges
+  costed-alike = sym (any-costed ys (flat_edges ends)) ∙ rw (same-tails, same-heads, same-weights) (any-costed ys edges)
+
+  best-alike : (xs : List ℕ) → ChartX ys (flat_edges ends) (take (point_count ys (flat_edges ends)) xs) → ChartX ys edges (take (point_count ys edges) xs)
+  best-alike xs b = rw (rows-alike, drawing-alike, costed-alike) at b
+
+  xs-alike : (xs : List ℕ) → chart_xs ys (flat_edges ends) ≡ take (point_count ys (flat_edges ends)) xs → chart_xs ys edges ≡ take (point_count ys edges) xs
+  xs-alike xs e = rw (rows-alike, drawing-alike, costed-alike) at e
 
 -- ---- what is laid in arrays
 
@@ -177,8 +209,8 @@ module _ (ys : List ℕ) (ends : Flat) (order : List ℕ) (h : Lined ys ends ord
     pub lines-spaced : (xs : List ℕ) → FoundX order (take p row) (take s upper) (take s lower) cost xs → LinesSpaced ys ends order xs
     lines-spaced xs f =
         record {
-          best = rw (points-count, costed-are) at (f.best (drawing_of ys drawn).order ordered);
-          is = rw (points-count, costed-are) at (f.is (drawing_of ys drawn).order ordered);
+          best = λ edges t. best-alike ys ends edges t xs (rw (points-count, costed-are) at (f.best (drawing_of ys drawn).order ordered));
+          is = λ edges t. xs-alike ys ends edges t xs (rw (points-count, costed-are) at (f.is (drawing_of ys drawn).order ordered));
           low = f.low;
           long = f.long;
         }

@@ -1,6 +1,6 @@
 -- What the functions behind the x of a chart ask for and answer.
 use Rattle.std.specs.Prelude.{◌≡◌, cond, ℕ, suc, ◌*◌, ◌≤◌, ◌<◌, eqb, length, take}
-use mathlib.Core.List.{List, [], ◌∷◌, ◌++◌, flatten, map}
+use mathlib.Core.List.{List, [], ◌∷◌, ◌++◌, flatten, map, tail}
 use Rattle.graph.specs.declared.Edge.{Edge}
 use Rattle.graph.specs.Rows.{at}
 use Rattle.graph.specs.Search.{run}
@@ -28,6 +28,11 @@ unfoldable pub costs_from : List ℕ → List Edge → List ℕ
 costs_from ys [] = []
 costs_from ys (e ∷ edges) = line_costs e.weight (between ys e) ++ costs_from ys edges
 
+-- edges by their ends and weights alone: gaps play no part in costs
+unfoldable pub lines_of : List ℕ → List ℕ → List ℕ → List Edge
+lines_of [] to weight = []
+lines_of (a ∷ from) to weight = record { from = a; to = at to 0; gap = 0; weight = at weight 0 } ∷ lines_of from (tail to) (tail weight)
+
 -- weights of which none is more than all edges of a table have together
 pub record Light (weight : List ℕ) : Type 0 where
   pub low : (i : ℕ) → i < length weight → at weight i ≤ max_added
@@ -40,9 +45,15 @@ pub record Lined (ys : List ℕ) (ends : Flat) (order : List ℕ) : Type 0 where
   pub order_is : order ≡ flatten (drawing_of ys (flat_edges ends)).order
   pub few : point_count ys (flat_edges ends) ≤ max_xs
 
--- the best x of their chart in the first entries of an array; each is below the number of points
+-- edges that have the ends and the weights of a flat list, and any gaps
+pub record Split (edges : List Edge) (ends : Flat) : Type 0 where
+  pub tails : ends.from.items ≡ map (λ (e : Edge). e.from) edges
+  pub heads : ends.to.items ≡ map (λ (e : Edge). e.to) edges
+  pub weights : ends.weight.items ≡ map (λ (e : Edge). e.weight) edges
+
+-- the best x of their chart in the first entries of an array, whatever edges have these ends and weights; each is below the number of points
 pub record LinesSpaced (ys : List ℕ) (ends : Flat) (order xs : List ℕ) : Type 0 where
-  pub best : ChartX ys (flat_edges ends) (take (point_count ys (flat_edges ends)) xs)
-  pub is : chart_xs ys (flat_edges ends) ≡ take (point_count ys (flat_edges ends)) xs
+  pub best : (drawn : List Edge) → Split drawn ends → ChartX ys drawn (take (point_count ys drawn) xs)
+  pub is : (drawn : List Edge) → Split drawn ends → chart_xs ys drawn ≡ take (point_count ys drawn) xs
   pub low : (p : ℕ) → p < length order → at xs p < length order
   pub long : length xs ≡ max_nodes

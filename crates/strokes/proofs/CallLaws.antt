@@ -29,6 +29,7 @@ use Rattle.ordering.proofs.DrawnLaws.{first-in}
 use Rattle.ordering.proofs.OpenedLaws.{found-refused, Opened, opened-long, opened-drawn, opened-chart}
 use Rattle.spacing.specs.Limits.{max_xs}
 use Rattle.coordinates.specs.Calls.{chart_xs, unless_past}
+use Rattle.coordinates.proofs.SpaceLaws.{split-of}
 use Rattle.corners.specs.declared.Stroke.{Stroke}
 use Rattle.corners.specs.Corners.{Stands}
 use Rattle.corners.specs.Strokes.{end_of}
@@ -137,8 +138,8 @@ module _ (bytes : List ℕ) (i : ℕ) {t : TableChart} (o : Opened bytes t) wher
                 record {
                   stands =
                       subst (λ (w : Visit). Stands (end_of s) (at (chart_xs rows drawn) w.point) (at (point_rows rows drawn) w.point))
-                      (sym (get_or_from_slice_get (visits_of rows contents) i v no_visit visit-is)) (rw (← flat-drawn) p.stands);
-                  best_x = rw (← flat-drawn) p.best;
+                      (sym (get_or_from_slice_get (visits_of rows contents) i v no_visit visit-is)) (p.stands drawn (split-of ends flat-drawn));
+                  best_x = p.best drawn (split-of ends flat-drawn);
                   best_rows = o.best;
                 }
 
@@ -150,7 +151,7 @@ module _ (bytes : List ℕ) (i : ℕ) {t : TableChart} (o : Opened bytes t) wher
             ended_at =
                 record {
                   value =
-                      ap (λ x. Ok (Some x)) (rw flat-drawn at p.is)
+                      ap (λ x. Ok (Some x)) (p.is drawn (split-of ends flat-drawn))
                       ∙ sym (ap (λ x. stroke_at x i) out-done ∙ ap Ok (stroke-there ∙ ap (option_map stroke) visit-is));
                   exact = stroke-exact;
                 }

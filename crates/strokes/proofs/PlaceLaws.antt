@@ -22,8 +22,8 @@ use Rattle.ordering.specs.Calls.{point_count}
 use Rattle.ordering.proofs.SplitLaws.{flat-tails, flat-heads}
 use Rattle.spacing.specs.Limits.{max_xs}
 use Rattle.coordinates.specs.Calls.{ChartX, chart_xs}
-use Rattle.coordinates.specs.Costing.{Lined, LinesSpaced}
-use Rattle.coordinates.proofs.SpaceLaws.{rows_room}
+use Rattle.coordinates.specs.Costing.{Lined, Split, LinesSpaced}
+use Rattle.coordinates.proofs.SpaceLaws.{rows_room, rows-alike}
 use Rattle.corners.specs.declared.Stroke.{Stroke}
 use Rattle.corners.specs.Corners.{max_place, Stands}
 use Rattle.corners.specs.Strokes.{end_of, stroke_to}
@@ -60,8 +60,14 @@ module _ (ys : List ℕ) (ends : Flat) (order : List ℕ) (h : Lined ys ends ord
           sym (get_or-take p row q 0 below) ∙ ap (λ (l : List ℕ). at l q) laid
 
       -- and its x is the best one
-      x-at : (xs : List ℕ) → LinesSpaced ys ends order xs → at xs q ≡ at (chart_xs ys drawn) q
-      x-at xs f = sym (ap (λ (l : List ℕ). at l q) f.is ∙ get_or-take (point_count ys drawn) xs q 0 in-points)
+      module _ (edges : List Edge) (same : Split edges ends) where
+        x-at : (xs : List ℕ) → LinesSpaced ys ends order xs → at xs q ≡ at (chart_xs ys edges) q
+        x-at xs f =
+            let inside : q < point_count ys edges = omega (arith, in-points, ap length (rows-alike ys ends edges same)) in
+            sym (ap (λ (l : List ℕ). at l q) (f.is edges same) ∙ get_or-take (point_count ys edges) xs q 0 inside)
+
+        row-of-edges : at row q ≡ at (point_rows ys edges) q
+        row-of-edges = row_at ∙ ap (λ (l : List ℕ). at l q) (rows-alike ys ends edges same)
 
     module _ (low : Below max_place ys) (v : Visit) (inside : v.point < length order) where
       -- both are small
@@ -81,7 +87,7 @@ module _ (ys : List ℕ) (ends : Flat) (order : List ℕ) (h : Lined ys ends ord
           → Stands (end_of r) (at xs v.point) (at row v.point) → StrokePlaced ys ends v r
       stroke-placed xs f r e stands =
           record {
-            is = rw (← x-at v.point inside xs f, ← row_at v.point inside) e;
-            stands = rw (← x-at v.point inside xs f, ← row_at v.point inside) stands;
-            best = subst (ChartX ys drawn) (sym f.is) f.best;
+            is = λ edges t. rw (← x-at v.point inside edges t xs f, ← row-of-edges v.point inside edges t) e;
+            stands = λ edges t. rw (← x-at v.point inside edges t xs f, ← row-of-edges v.point inside edges t) stands;
+            best = λ edges t. subst (ChartX ys edges) (sym (f.is edges t)) (f.best edges t);
           }
