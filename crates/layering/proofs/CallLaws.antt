@@ -20,7 +20,7 @@ use Rattle.orientation.specs.Orientable.{Orientable}
 use Rattle.rows.specs.declared.types.RowsFound.{RowsFound}
 use Rattle.rows.specs.Answers.{rows_numbers}
 use Rattle.rows.specs.Placed.{held_rows, FairEdges, RowsPlaced, Placed, RowsHandedOut}
-use Rattle.rows.proofs.StoreLaws.{handed-best}
+use Rattle.rows.proofs.StoreLaws.{handed-refused, handed-best}
 use Rattle.layering.specs.declared.place.RankedEdges.{RankedEdges}
 use Rattle.layering.specs.declared.types.TableRows.{TableRows}
 use Rattle.layering.specs.declared.types.Unplaced.{Unplaced}
@@ -174,4 +174,4 @@ module _ (s : List ℕ) where
 
   pub refused-call : {f : Refusal} (old : List ℕ) → rows_of_table s ≡ refused f
       → (rows_numbers (Err f) ≡ (rows_call s old).numbers) × ((old ≡ (rows_call s old).rows) × TableBest s (rows_numbers (Err f)) old)
-  refused-call {f} old e = call {f = Err f} {r = Err f} (record { says = sym e; placed = tt }) (record { numbers = refl; rows = refl })
+  refused-call {f} old e = call {f = Err f} {r = Err f} (record { says = sym e; placed = tt }) (handed-refused old (Err f) refl)

@@ -1,5 +1,5 @@
 -- A chart handed out: that the rows handed out are the best.
-use mathlib.Core.Path.{◌≡◌, sym, ap, ◌∙◌, subst}
+use mathlib.Core.Path.{◌≡◌, refl, sym, ap, ◌∙◌, subst}
 use mathlib.Core.Bool.{Bool, true, false, cond, ◌&&◌}
 use mathlib.Core.List.{List, ◌∷◌}
 use Prim.Native.Nat.{ℕ}
@@ -24,6 +24,10 @@ abbrev ends : Charted → List ℕ → List ℕ → Bool → ChartEnd
 ends c rows order b =
     cond b (record { numbers = 0 ∷ figures_numbers c.figures; rows = filled c.rows rows; order = filled c.order order })
     (record { numbers = numbers_of ShortBuffer; rows = rows; order = order })
+
+-- a refusal leaves both buffers as they were
+pub handed-refused : (rows order : List ℕ) (f : Result ChartFound Refusal) {r : Refusal} → f ≡ Err r → ChartHandedOut (held_chart f) rows order rows order (Err r)
+handed-refused rows order f e = rw e (record { numbers = refl; rows_are = refl; order_is = refl })
 
 module _ (n : ℕ) (edges : List Edge) {rows order rows' order' : List ℕ} where
   -- By what was found, and by the test of the buffers: where the answer is a chart, the first entries of the buffer are its rows.

@@ -22,6 +22,10 @@ use Rattle.rows.specs.Placed.{held_rows, RowsPlaced, Placed, RowsHandedOut}
 
 -- ---- rows handed out
 
+-- a refusal leaves the buffer as it was
+pub handed-refused : (old : List ℕ) (f : Result RowsFound Refusal) {r : Refusal} → f ≡ Err r → RowsHandedOut (held_rows f) old old (Err r)
+handed-refused old f e = rw e (record { numbers = refl; rows = refl })
+
 module _ (rows old : List ℕ) where
   pub handed-short : length old < length rows → RowsHandedOut (done rows) old old (Err ShortBuffer)
   handed-short h = record { numbers = simp (lt-leb (length rows) (length old) h); rows = simp (lt-leb (length rows) (length old) h) }
