@@ -115,16 +115,16 @@ module _ (ys : List ℕ) (ends : Flat) (edges : List Edge) (s : Split edges ends
   pub rows-alike : point_rows ys (flat_edges ends) ≡ point_rows ys edges
   rows-alike = sym (any-points ys (flat_edges ends)) ∙ rw (same-tails, same-heads) (any-points ys edges)
 
-  drawing-alike : drawing_of ys (flat_edges ends) ≡ drawing_of ys edges
+  pub drawing-alike : drawing_of ys (flat_edges ends) ≡ drawing_of ys edges
   drawing-alike = sym (drawing-of-ends ys (flat_edges ends)) ∙ rw (same-tails, same-heads) (drawing-of-ends ys edges)
 
-  costed-alike : chart_costed ys (flat_edges ends) ≡ chart_costed ys edges
+  pub costed-alike : chart_costed ys (flat_edges ends) ≡ chart_costed ys edges
   costed-alike = sym (any-costed ys (flat_edges ends)) ∙ rw (same-tails, same-heads, same-weights) (any-costed ys edges)
 
-  best-alike : (xs : List ℕ) → ChartX ys (flat_edges ends) (take (point_count ys (flat_edges ends)) xs) → ChartX ys edges (take (point_count ys edges) xs)
+  pub best-alike : (xs : List ℕ) → ChartX ys (flat_edges ends) (take (point_count ys (flat_edges ends)) xs) → ChartX ys edges (take (point_count ys edges) xs)
   best-alike xs b = rw (rows-alike, drawing-alike, costed-alike) at b
 
-  xs-alike : (xs : List ℕ) → chart_xs ys (flat_edges ends) ≡ take (point_count ys (flat_edges ends)) xs → chart_xs ys edges ≡ take (point_count ys edges) xs
+  pub xs-alike : (xs : List ℕ) → chart_xs ys (flat_edges ends) ≡ take (point_count ys (flat_edges ends)) xs → chart_xs ys edges ≡ take (point_count ys edges) xs
   xs-alike xs e = rw (rows-alike, drawing-alike, costed-alike) at e
 
 -- ---- what is laid in arrays

@@ -129,7 +129,8 @@ module _ (s : List ℕ) where
         (sym (take_all (length r.table.steps.items) r.found.rows.items (omega (arith, p.placed.best.one_a_node)))) p.placed.best),
   )
 
-  refused-end : (u : Unplaced) → contents_of (read s) ≡ contents_beside u.table → rows_of_table s ≡ refused u.refusal
+  -- and of a table that has no rows: the reader's table, if there is one, beside the refusal
+  pub refused-end : (u : Unplaced) → contents_of (read s) ≡ contents_beside u.table → rows_of_table s ≡ refused u.refusal
       → (place_end (Err u) ≡ place_call s) × TableBest s (place_end (Err u)).numbers (place_end (Err u)).rows
   unfolding place_call
   refused-end u t e = (rw (e, t) refl, λ zero. absurd (omega (arith, number-some u.refusal)))

@@ -36,6 +36,18 @@ pub ranked-rows : (n : ℕ) (edges : List TableEdge) {rows : List ℕ} → table
 unfolding table_rows_found
 ranked-rows n edges e = loop-free (lowest_on_loop n (must_of edges)) e
 
+-- ---- flags that are found
+
+-- With the table's flags, and rows of its edges as kept or turned that are the table's, what is found for the edges is what is found for it.
+pub turned-placed : (n : ℕ) (edges : List TableEdge) (turned : ArrayVec Bool) → turned.items ≡ turned_edges n edges
+    → rows_found n (oriented_edges n edges) ≡ table_rows_found n edges → EdgesTurned n edges (Ok turned)
+turned-placed n edges turned e same = (e, (same, record { placed = ranked }))
+  where
+    ranked : (r : Result RowsFound Refusal) → EdgesPlaced n (directed_by turned.items edges) r → Placed n (oriented_edges n edges) (table_rows_found n edges) r
+    ranked r p =
+        subst (λ o. Placed n (oriented_edges n edges) o r) same
+        (subst (λ l. EdgesPlaced n l r) (ap (λ flags. directed_by flags edges) e ∙ directed-oriented n edges) p)
+
 -- ---- edges within the limits
 
 -- a fair edge is fair whichever way it points
@@ -114,15 +126,8 @@ module _ (n : ℕ) (edges : List TableEdge) (fair : Orientable n edges) where
     unfolding rows_found table_rows_found
     soft-found = rw (oriented-none n edges fair-joining free, free)
 
-    -- with the flags found, what is found for the edges is what is found for the table's
-    ranked-soft : {flags : List Bool} → flags ≡ turned_edges n edges → (r : Result RowsFound Refusal) → EdgesPlaced n (directed_by flags edges) r
-        → Placed n (oriented_edges n edges) (table_rows_found n edges) r
-    ranked-soft e r p =
-        subst (λ o. Placed n (oriented_edges n edges) o r) soft-found
-        (subst (λ l. EdgesPlaced n l r) (ap (λ flags. directed_by flags edges) e ∙ directed-oriented n edges) p)
-
     pub turned-soft : (turned : ArrayVec Bool) → turned.items ≡ turned_edges n edges → EdgesTurned n edges (Ok turned)
-    turned-soft turned e = (e, (soft-found, record { placed = ranked-soft e }))
+    turned-soft turned e = turned-placed n edges turned e soft-found
 
   -- ---- what is found for the edges with the flags that were found
 

@@ -17,8 +17,8 @@ use Rattle.table.specs.Calls.{contents_in}
 use Rattle.acyclic.proofs.OrientedLaws.{turned-length, directed-oriented}
 use Rattle.layering.specs.declared.types.TableRows.{TableRows}
 use Rattle.layering.specs.declared.types.Unplaced.{Unplaced}
-use Rattle.layering.specs.Calls.{table_rows_found, rows_of_table, oriented_in, steps_in, edges_in, place_call, place_end}
-use Rattle.layering.proofs.CallLaws.{TableFound as RowsOfTable, read-oriented}
+use Rattle.layering.specs.Calls.{table_rows_found, rows_of_table, oriented_in, steps_in, edges_in, PlaceEnd, contents_beside, place_call, place_end}
+use Rattle.layering.proofs.CallLaws.{TableFound as RowsOfTable, read-oriented, found-end}
 use Rattle.merging.specs.Merged.{merged, drawn_edges}
 use Rattle.ordering.specs.declared.types.Figures.{Figures}
 use Rattle.ordering.specs.declared.types.ChartFound.{ChartFound}
@@ -93,22 +93,29 @@ module _ (bytes : List ℕ) where
         (subst (λ (k : ℕ). EdgesFound k (directed_by r.turned.items r.table.edges.items) (drawn_edges r.turned.items (merged r.table.edges.items)) ys c) count e)))
 
     -- what the functions behind the chart found is what a layer above is promised
-    module _ (e : place_end (Ok r) ≡ place_call bytes) where
-      pub drawn-end : {c : ChartFound} → TableFound bytes (Ok c) → draw_end (Ok (record { table = r.table; turned = r.turned; chart = c })) ≡ draw_call bytes
-      unfolding draw_call
-      drawn-end {c} h = rw (← e, ← h.says) (rw h.placed.tall refl)
+    pub drawn-end : {c : ChartFound} → TableFound bytes (Ok c) → draw_end (Ok (record { table = r.table; turned = r.turned; chart = c })) ≡ draw_call bytes
+    unfolding draw_call
+    drawn-end {c} h = rw (← (found-end bytes p).0, ← h.says) (rw h.placed.tall refl)
 
-      -- of too many points too: the table and its turned edges are there
-      pub many-end : {f : Refusal} → TableFound bytes (Err f) → draw_end (Err (record { refusal = f; table = Some r.table; turned = r.turned })) ≡ draw_call bytes
-      unfolding draw_call row_count
-      many-end {f} h = rw (← e, ← h.says) refl
+  -- and of a table that has no chart: it and its turned edges, as `place_table` leaves them, beside the refusal
+  pub refused-end : (u : Uncharted) → contents_beside u.table ≡ (place_call bytes).contents → u.turned.items ≡ (place_call bytes).turned
+      → TableFound bytes (Err u.refusal) → draw_end (Err u) ≡ draw_call bytes
+  unfolding draw_call row_count
+  refused-end u t f h = rw (t, f, ← h.says) refl
 
-  -- and of a table that has no rows
+  -- of too many points both are there
+  pub many-end : {r : TableRows} → RowsOfTable bytes r → {f : Refusal} → TableFound bytes (Err f)
+      → draw_end (Err (record { refusal = f; table = Some r.table; turned = r.turned })) ≡ draw_call bytes
+  many-end {r} p {f} h =
+      let e = (found-end bytes p).0 in
+      refused-end (record { refusal = f; table = Some r.table; turned = r.turned }) (ap (λ (x : PlaceEnd). x.contents) e) (ap (λ (x : PlaceEnd). x.turned) e) h
+
+  -- of a table that has no rows no edge is turned
   pub rowless-end : (u : Unplaced) (x : Uncharted) → place_end (Err u) ≡ place_call bytes → TableFound bytes (Err u.refusal) → RowsRefused u x
       → (draw_end (Err x) ≡ draw_call bytes) × TableFound bytes (Err x.refusal)
-  unfolding draw_call row_count
   rowless-end u x e h k =
-      (rw (k.refusal_is, k.table_is, k.none_turned) (rw (← e, ← h.says) refl), subst (λ f. TableFound bytes (Err f)) (sym k.refusal_is) h)
+      let found = subst (λ f. TableFound bytes (Err f)) (sym k.refusal_is) h in
+      (refused-end x (ap contents_beside k.table_is ∙ ap (λ (y : PlaceEnd). y.contents) e) (k.none_turned ∙ ap (λ (y : PlaceEnd). y.turned) e) found, found)
 
   -- ---- the whole chart
 

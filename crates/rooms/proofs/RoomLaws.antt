@@ -60,7 +60,7 @@ pub held-count : (row upper lower first saved : List ℕ) (count n : ℕ) → ro
 held-count row upper lower first saved count n e = subst (λ (k : ℕ). DrawingHeld (best_order k row (segments_in upper lower)) saved n) e
 
 -- and with as many starts as there are rows, and one behind them, the rows are told by these
-starts-held : (first : List ℕ) (count : ℕ) → count < length first → rows_held (take (count + 1) first) ≡ count
+pub starts-held : (first : List ℕ) (count : ℕ) → count < length first → rows_held (take (count + 1) first) ≡ count
 starts-held first count h = omega (arith, length-take-le (count + 1) first (omega arith))
 
 module _ (row upper : List ℕ) {first order before pos totals moved above_head above_links above below_head below_links below saved : List ℕ} {count : ℕ}

@@ -3,7 +3,7 @@
 // An array has its size when the code is compiled, so that all that a chart may need would be cleared for every chart. There is room of two
 // sizes, and the order of a small chart is found in the smaller.
 //
-// `Room` stays a clause: it is about lent scratch and the points, which come in two structs.
+// `Room` stays a clause: it is about lent scratch and the points, which come in several arguments.
 #![tactic(auto)]
 
 ghost use Rattle.std.specs.Prelude.{◌≡◌, IsTrue, ◌+◌, ◌<◌, ◌≤◌, length, replicate};

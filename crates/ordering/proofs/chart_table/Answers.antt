@@ -26,10 +26,10 @@ pub returns-in-Ok : goal.returns-in-Ok
 returns-in-Ok c =
     let p = place-found _ {r = c.in_ok-table.field-0} c.in_ok-table.ensures.result_value c.in_ok-table.ensures.table_best in
     let k = table-drawn _ p {c = Ok c.in-Ok.chart} (rw (c.deref.ensures.0, c.deref-2.ensures.0) at c.in-Ok.ensures) in
-    record { result_value = drawn-end _ p c.in_ok-table.ensures.result_value k; table_found = k }
+    record { result_value = drawn-end _ p k; table_found = k }
 
 pub returns-in-Err : goal.returns-in-Err
 returns-in-Err c =
     let p = place-found _ {r = c.in_ok-table.field-0} c.in_ok-table.ensures.result_value c.in_ok-table.ensures.table_best in
     let k = table-drawn _ p {c = Err c.in-Err.refusal} (rw (c.deref.ensures.0, c.deref-2.ensures.0) at c.in-Err.ensures) in
-    record { result_value = many-end _ p c.in_ok-table.ensures.result_value k; table_found = k }
+    record { result_value = many-end _ p k; table_found = k }
