@@ -39,14 +39,14 @@ ranked-rows n edges e = loop-free (lowest_on_loop n (must_of edges)) e
 -- ---- flags that are found
 
 -- With the table's flags, and rows of its edges as kept or turned that are the table's, what is found for the edges is what is found for it.
-pub turned-placed : (n : ℕ) (edges : List TableEdge) (turned : ArrayVec Bool) → turned.items ≡ turned_edges n edges
-    → rows_found n (oriented_edges n edges) ≡ table_rows_found n edges → EdgesTurned n edges (Ok turned)
-turned-placed n edges turned e same = (e, (same, record { placed = ranked }))
-  where
-    ranked : (r : Result RowsFound Refusal) → EdgesPlaced n (directed_by turned.items edges) r → Placed n (oriented_edges n edges) (table_rows_found n edges) r
-    ranked r p =
-        subst (λ o. Placed n (oriented_edges n edges) o r) same
-        (subst (λ l. EdgesPlaced n l r) (ap (λ flags. directed_by flags edges) e ∙ directed-oriented n edges) p)
+pub ranked-flags : (n : ℕ) (edges : List TableEdge) {flags : List Bool} → flags ≡ turned_edges n edges
+    → rows_found n (oriented_edges n edges) ≡ table_rows_found n edges → RankedBy n edges flags
+ranked-flags n edges e same =
+    record {
+      placed = λ r p.
+          subst (λ o. Placed n (oriented_edges n edges) o r) same
+          (subst (λ l. EdgesPlaced n l r) (ap (λ flags. directed_by flags edges) e ∙ directed-oriented n edges) p);
+    }
 
 -- ---- edges within the limits
 
@@ -99,13 +99,10 @@ module _ (n : ℕ) (edges : List TableEdge) (fair : Orientable n edges) where
         unset : (i : ℕ) → i < length edges → get_or (take (length edges) (replicate max_edges false)) i false ≡ false
         unset i h = get_or-take (length edges) (replicate max_edges false) i false h ∙ get_or-replicate max_edges i false false (omega (arith, fair.few_edges))
 
-    firm-directed : directed_by (take (length edges) (replicate max_edges false)) edges ≡ oriented_edges n edges
-    firm-directed = ap (λ flags. directed_by flags edges) firm-flags ∙ directed-oriented n edges
-
     -- with no flag set, what is found for the edges is what is found for the table's
     pub ranked-firm : (r : Result RowsFound Refusal) → EdgesPlaced n (directed_by (take (length edges) (replicate max_edges false)) edges) r
         → (take (length edges) (replicate max_edges false) ≡ turned_edges n edges) × Placed n (oriented_edges n edges) (table_rows_found n edges) r
-    ranked-firm r p = (firm-flags, subst (λ o. Placed n (oriented_edges n edges) o r) firm-found (subst (λ l. EdgesPlaced n l r) firm-directed p))
+    ranked-firm r p = (firm-flags, (ranked-flags n edges firm-flags firm-found).placed r p)
 
     -- so with these flags they are ranked as the table's are to be
     pub turned-firm : {all turned : ArrayVec Bool} → all.items ≡ replicate max_edges false → turned.items ≡ take (length edges) all.items → EdgesTurned n edges (Ok turned)
@@ -127,7 +124,7 @@ module _ (n : ℕ) (edges : List TableEdge) (fair : Orientable n edges) where
     soft-found = rw (oriented-none n edges fair-joining free, free)
 
     pub turned-soft : (turned : ArrayVec Bool) → turned.items ≡ turned_edges n edges → EdgesTurned n edges (Ok turned)
-    turned-soft turned e = turned-placed n edges turned e soft-found
+    turned-soft turned e = (e, (soft-found, ranked-flags n edges e soft-found))
 
   -- ---- what is found for the edges with the flags that were found
 

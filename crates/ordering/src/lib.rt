@@ -35,7 +35,7 @@ pub fn draw_chart(bytes: &[u8], rows: &mut [Row], order: &mut [u16]) -> Result<F
 }
 
 // The table that the bytes write down, which of its edges are turned, and its chart: what a layer above builds on. Refuses as the rows
-// call does, then too many points, and gives the table and what is turned as the rows call leaves them.
+// call does, then too many points, and gives the table and what is turned as `place_table` leaves them.
 pub fn chart_table(bytes: &[u8]) -> Result<TableChart, Uncharted>
     ensures result_value { draw_end result ≡ draw_call bytes.now }
     ensures table_found { TableFound bytes.now (chart_in result) }

@@ -36,7 +36,7 @@ pub struct TableChart {
     pub chart: ChartFound,
 }
 
-// Why there is no chart, and the table and its turned edges as the rows call leaves them: with too many points both are there, with a loop
+// Why there is no chart, and the table and its turned edges as `place_table` leaves them: with too many points both are there, with a loop
 // the table alone.
 #[derive(Drop)]
 pub struct Uncharted {
